@@ -1,0 +1,178 @@
+-- The counts of years and months in closed form.
+use Rattle.std.proofs.Common.{◌≡◌, ℕ, zero, suc, ◌+◌, ◌-◌, ◌*◌, ◌/◌, ◌<◌, ◌≤◌, cond, nat_lt, [], ◌∷◌, get_or, refl, sym, arith, ℤ, pos, negsuc, ◌+ℤ◌, ◌-ℤ◌, ◌*ℤ◌, ◌≤ℤ◌, neg_ℤ, unsigned_abs}
+use Rattle.std.proofs.lemmas.Bool.Decides.{nat_tests}
+use Rattle.civil.specs.Calendar.{is_leap_year, days_in_year, days_in_month, days_from_zero, days_to_zero, year_start, leap_days_to, days_of_months, day_of, IsDate, IsDay}
+use Rattle.civil.specs.Laws.{CountsYears}
+use Rattle.civil.proofs.SignedLemmas.{signed_arith, one_part}
+use borrow.Author.Differences.{up, down}
+
+-- 1 for a leap year, and else 0
+abbrev pub leap_day : ℤ → ℕ
+leap_day y = cond (is_leap_year y) 1 0
+
+-- a year has 365 days, and its leap day
+pub days_in_year-leap_day : (y : ℤ) → days_in_year y ≡ 365 + leap_day y
+days_in_year-leap_day y = grind arith
+
+-- the closed form of the years from 0 on grows by each year's leap day
+from_zero_step : (n : ℕ) → (suc n + 3) / 4 + (suc n + 399) / 400 + (n + 99) / 100 ≡ (n + 3) / 4 + (n + 399) / 400 + (suc n + 99) / 100 + leap_day (pos n)
+from_zero_step n = grind (arith, nat_tests)
+
+-- and that of the years before 0
+to_zero_step : (n : ℕ) → suc n / 4 + suc n / 400 + n / 100 ≡ n / 4 + n / 400 + suc n / 100 + leap_day (negsuc n)
+to_zero_step n = grind (arith, nat_tests)
+
+-- the days of the n years from 0 on; `a - b ≡ c` is written as `a ≡ c + b`
+pub days_from_zero-closed : (n : ℕ) → days_from_zero n + (n + 99) / 100 ≡ 365 * n + (n + 3) / 4 + (n + 399) / 400
+unfolding days_from_zero
+days_from_zero-closed zero = refl
+days_from_zero-closed (suc n) = omega (arith, days_from_zero-closed n, from_zero_step n, days_in_year-leap_day (pos n))
+
+-- the days of the n years before 0
+pub days_to_zero-closed : (n : ℕ) → days_to_zero n + n / 100 ≡ 365 * n + n / 4 + n / 400
+unfolding days_to_zero
+days_to_zero-closed zero = refl
+days_to_zero-closed (suc n) = omega (arith, days_to_zero-closed n, to_zero_step n, days_in_year-leap_day (negsuc n))
+
+-- the days from 0 to 1970
+epoch_days : days_from_zero 1970 ≡ 719528
+epoch_days = omega (arith, days_from_zero-closed 1970)
+
+-- the table that the code reads, and the leap day past February
+pub days_of_months_table : (y : ℤ) (n : ℕ) → n < 12 → days_of_months y n ≡ get_or (0 ∷ 31 ∷ 59 ∷ 90 ∷ 120 ∷ 151 ∷ 181 ∷ 212 ∷ 243 ∷ 273 ∷ 304 ∷ 334 ∷ []) n 0 + cond (nat_lt 1 n) (leap_day y) 0
+unfolding days_of_months
+days_of_months_table y zero h = grind arith
+days_of_months_table y (suc zero) h = grind arith
+days_of_months_table y (suc (suc zero)) h = grind arith
+days_of_months_table y (suc (suc (suc zero))) h = grind arith
+days_of_months_table y (suc (suc (suc (suc zero)))) h = grind arith
+days_of_months_table y (suc (suc (suc (suc (suc zero))))) h = grind arith
+days_of_months_table y (suc (suc (suc (suc (suc (suc zero)))))) h = grind arith
+days_of_months_table y (suc (suc (suc (suc (suc (suc (suc zero))))))) h = grind arith
+days_of_months_table y (suc (suc (suc (suc (suc (suc (suc (suc zero)))))))) h = grind arith
+days_of_months_table y (suc (suc (suc (suc (suc (suc (suc (suc (suc zero))))))))) h = grind arith
+days_of_months_table y (suc (suc (suc (suc (suc (suc (suc (suc (suc (suc zero)))))))))) h = grind arith
+days_of_months_table y (suc (suc (suc (suc (suc (suc (suc (suc (suc (suc (suc zero))))))))))) h = grind arith
+days_of_months_table y (suc (suc (suc (suc (suc (suc (suc (suc (suc (suc (suc (suc n)))))))))))) h = absurd (omega arith)
+
+-- the first day of a year from 0 on
+year_start-from : (n : ℕ) → year_start (pos n) ≡ pos (days_from_zero n) -ℤ pos 719528
+unfolding year_start
+year_start-from n = rw epoch_days refl
+
+-- the first day of a year before 0
+year_start-to : (n : ℕ) → year_start (negsuc n) ≡ neg_ℤ (pos (days_to_zero (suc n) + 719528))
+unfolding year_start
+year_start-to n = rw epoch_days refl
+
+-- no year has more days
+days_in_year_bound : (y : ℤ) → days_in_year y ≤ 366
+days_in_year_bound y = grind arith
+
+-- the first day of the year after x
+year_start-after : (x : ℤ) → year_start (x +ℤ pos 1) ≡ pos 365 *ℤ x +ℤ leap_days_to x -ℤ pos 719162
+unfolding leap_days_to
+year_start-after (pos n) = omega (arith, signed_arith, year_start-from (n + 1), days_from_zero-closed (n + 1))
+year_start-after (negsuc zero) = omega (arith, signed_arith, year_start-from 0, days_from_zero-closed 0)
+year_start-after (negsuc (suc n)) =
+    let back : negsuc (suc n) +ℤ pos 1 ≡ negsuc n = omega (arith, signed_arith) in
+    rw back (omega (arith, signed_arith, year_start-to n, days_to_zero-closed (suc n)))
+
+-- the closed form, with x the year before
+pub year_start-closed : (y x : ℤ) → x +ℤ pos 1 ≡ y → year_start y ≡ pos 365 *ℤ x +ℤ leap_days_to x -ℤ pos 719162
+year_start-closed y x e = rw e at (year_start-after x)
+
+-- leap_days_to lies near 97 of 400 years
+pub leap_days_bound : (y : ℤ) → (up (leap_days_to y) * 400 + down y * 97 ≤ down (leap_days_to y) * 400 + up y * 97 + 1000) × (down (leap_days_to y) * 400 + up y * 97 ≤ up (leap_days_to y) * 400 + down y * 97 + 1000)
+unfolding leap_days_to
+leap_days_bound y = omega (arith, signed_arith)
+
+-- a year begins where the one before it ends
+pub year_start-next : (y : ℤ) → year_start (y +ℤ pos 1) ≡ year_start y +ℤ pos (days_in_year y)
+unfolding days_from_zero days_to_zero
+year_start-next (pos n) =
+    let next : n + 1 ≡ suc n = omega arith in
+    rw next (omega (arith, signed_arith, year_start-from (suc n), year_start-from n))
+year_start-next (negsuc zero) = omega (arith, signed_arith, year_start-from 0, year_start-to 0)
+year_start-next (negsuc (suc n)) =
+    let back : negsuc (suc n) +ℤ pos 1 ≡ negsuc n = omega (arith, signed_arith) in
+    rw back (omega (arith, signed_arith, year_start-to n, year_start-to (suc n)))
+
+-- both equations of the law
+pub counts_years : CountsYears
+counts_years = record {
+  epoch = omega (arith, signed_arith, year_start-from 1970, epoch_days);
+  next = year_start-next;
+}
+
+-- a month lies inside its year
+months_within : (y : ℤ) (n : ℕ) → n < 12 → days_of_months y n + days_in_month y (suc n) ≤ days_in_year y
+months_within y zero h = grind (arith, days_of_months_table y 0 (omega arith))
+months_within y (suc zero) h = grind (arith, days_of_months_table y 1 (omega arith))
+months_within y (suc (suc zero)) h = grind (arith, days_of_months_table y 2 (omega arith))
+months_within y (suc (suc (suc zero))) h = grind (arith, days_of_months_table y 3 (omega arith))
+months_within y (suc (suc (suc (suc zero)))) h = grind (arith, days_of_months_table y 4 (omega arith))
+months_within y (suc (suc (suc (suc (suc zero))))) h = grind (arith, days_of_months_table y 5 (omega arith))
+months_within y (suc (suc (suc (suc (suc (suc zero)))))) h = grind (arith, days_of_months_table y 6 (omega arith))
+months_within y (suc (suc (suc (suc (suc (suc (suc zero))))))) h = grind (arith, days_of_months_table y 7 (omega arith))
+months_within y (suc (suc (suc (suc (suc (suc (suc (suc zero)))))))) h = grind (arith, days_of_months_table y 8 (omega arith))
+months_within y (suc (suc (suc (suc (suc (suc (suc (suc (suc zero))))))))) h = grind (arith, days_of_months_table y 9 (omega arith))
+months_within y (suc (suc (suc (suc (suc (suc (suc (suc (suc (suc zero)))))))))) h = grind (arith, days_of_months_table y 10 (omega arith))
+months_within y (suc (suc (suc (suc (suc (suc (suc (suc (suc (suc (suc zero))))))))))) h = grind (arith, days_of_months_table y 11 (omega arith))
+months_within y (suc (suc (suc (suc (suc (suc (suc (suc (suc (suc (suc (suc n)))))))))))) h = absurd (omega arith)
+
+-- a date lies inside its year
+pub day_within : (y : ℤ) (m d : ℕ) → IsDate y m d → days_of_months y (m - 1) + d ≤ days_in_year y
+day_within y zero d is = absurd (omega arith)
+day_within y (suc n) d is =
+    let back : suc n - 1 ≡ n = omega arith in
+    rw back (omega (arith, months_within y n (omega arith)))
+
+-- `day_of` as an equation, for `omega`
+pub day_of-is : (y : ℤ) (m d : ℕ) → day_of y m d ≡ year_start y +ℤ pos (days_of_months y (m - 1) + (d - 1))
+unfolding day_of
+day_of-is y m d = refl
+
+-- the first year of the calendar, and the year after its last
+pub first_start : year_start (negsuc 262142) ≡ negsuc 96465291
+unfolding leap_days_to
+first_start = year_start-after (negsuc 262143)
+
+pub last_start : year_start (pos 262143) ≡ pos 95026237
+unfolding leap_days_to
+last_start = year_start-after (pos 262142)
+
+-- a later year starts later
+start_up : (y : ℤ) (k : ℕ) → year_start y ≤ℤ year_start (y +ℤ pos k)
+start_up y zero = let same : y +ℤ pos 0 ≡ y = omega (arith, signed_arith) in rw same (omega (arith, signed_arith))
+start_up y (suc k) =
+    let next : y +ℤ pos (suc k) ≡ (y +ℤ pos k) +ℤ pos 1 = omega (arith, signed_arith) in
+    rw next (omega (arith, signed_arith, start_up y k, year_start-next (y +ℤ pos k)))
+
+-- the same for any two years
+pub starts_in_order : (y z : ℤ) → y ≤ℤ z → year_start y ≤ℤ year_start z
+starts_in_order y z h =
+    let there : y +ℤ pos (unsigned_abs (z -ℤ y)) ≡ z = omega (arith, signed_arith, one_part (z -ℤ y)) in
+    rw there at (start_up y (unsigned_abs (z -ℤ y)))
+
+-- each date has a day number of the calendar
+pub in_calendar : (y : ℤ) (m d : ℕ) → IsDate y m d → IsDay (day_of y m d)
+in_calendar y m d is = record {
+  first = omega (arith, signed_arith, day_of-is y m d, starts_in_order (negsuc 262142) y is.first_year, first_start);
+  last = omega (arith, signed_arith, day_of-is y m d, day_within y m d is, year_start-next y, starts_in_order (y +ℤ pos 1) (pos 262143) (omega (arith, signed_arith)), last_start);
+}
+
+-- the number that the code adds up is the day number, and fits
+pub record CodeDay (y : ℤ) (m d : ℕ) (start : ℤ) (months : ℕ) : Type 0 where
+  pub whole : start +ℤ pos (months + (d - 1)) ≡ day_of y m d
+  pub inside : IsDay (start +ℤ pos (months + (d - 1)))
+  pub small : months + (d - 1) < 366
+
+pub code_day : (y : ℤ) (m d : ℕ) (start : ℤ) (months : ℕ) → IsDate y m d → start ≡ year_start y → months ≡ days_of_months y (m - 1) → CodeDay y m d start months
+code_day y m d start months is e f =
+    let whole : start +ℤ pos (months + (d - 1)) ≡ day_of y m d = rw (e, f) (sym (day_of-is y m d)) in
+    record {
+      whole = whole;
+      inside = rw whole (in_calendar y m d is);
+      small = omega (arith, day_within y m d is, days_in_year_bound y);
+    }

@@ -1,0 +1,49 @@
+-- An earlier date has a smaller day number.
+use Rattle.std.proofs.Common.{◌≡◌, ℕ, zero, suc, ◌+◌, ◌-◌, ◌<◌, ◌≤◌, inl, inr, arith, ℤ, pos, ◌+ℤ◌, ◌<ℤ◌}
+use Rattle.civil.specs.Calendar.{days_in_month, days_of_months, day_of, IsDate}
+use Rattle.civil.specs.Laws.{IsEarlier}
+use Rattle.civil.proofs.SignedLemmas.{signed_arith}
+use Rattle.civil.proofs.CalendarLemmas.{day_of-is, day_within, starts_in_order, year_start-next}
+
+-- k more months have at least as many days
+months_up : (y : ℤ) (n k : ℕ) → days_of_months y n ≤ days_of_months y (k + n)
+unfolding days_of_months
+months_up y n zero =
+    let same : 0 + n ≡ n = omega arith in
+    rw same (omega arith)
+months_up y n (suc k) =
+    let next : suc k + n ≡ suc (k + n) = omega arith in
+    rw next (omega (arith, months_up y n k))
+
+-- a month ends before a later one of its year begins
+month_before : (y : ℤ) (m m' : ℕ) → 1 ≤ m → m < m' → days_of_months y (m - 1) + days_in_month y m ≤ days_of_months y (m' - 1)
+unfolding days_of_months
+month_before y zero m' h k = absurd (omega arith)
+month_before y (suc n) m' h k =
+    let back : suc n - 1 ≡ n = omega arith in
+    let there : (m' - 1 - suc n) + suc n ≡ m' - 1 = omega arith in
+    rw back (rw there at (months_up y (suc n) (m' - 1 - suc n)))
+
+-- a date of an earlier year
+earlier_year : (y : ℤ) (m d : ℕ) (y' : ℤ) (m' d' : ℕ) → IsDate y m d → y <ℤ y' → day_of y m d <ℤ day_of y' m' d'
+earlier_year y m d y' m' d' is h =
+    omega (arith, signed_arith, day_of-is y m d, day_of-is y' m' d', is.first_day, day_within y m d is, year_start-next y, starts_in_order (y +ℤ pos 1) y' (omega (arith, signed_arith)))
+
+-- a date of an earlier month of the same year
+earlier_month : (y : ℤ) (m d m' d' : ℕ) → IsDate y m d → m < m' → day_of y m d <ℤ day_of y m' d'
+earlier_month y m d m' d' is h =
+    omega (arith, signed_arith, day_of-is y m d, day_of-is y m' d', is.first_day, is.last_day, month_before y m m' is.first_month h)
+
+-- an earlier day of the same month
+earlier_day : (y : ℤ) (m d d' : ℕ) → IsDate y m d → d < d' → day_of y m d <ℤ day_of y m d'
+earlier_day y m d d' is h =
+    omega (arith, signed_arith, day_of-is y m d, day_of-is y m d', is.first_day)
+
+-- any two dates, by the three cases
+pub days_in_order : (y : ℤ) (m d : ℕ) (y' : ℤ) (m' d' : ℕ) → IsDate y m d → IsDate y' m' d' → IsEarlier y m d y' m' d' → day_of y m d <ℤ day_of y' m' d'
+days_in_order y m d y' m' d' is is' (inl h) = earlier_year y m d y' m' d' is h
+days_in_order y m d y' m' d' is is' (inr h) =
+    rw (← h.0) (elim h.1 [
+      | inl before ↦ earlier_month y m d m' d' is before
+      | inr same ↦ rw (← same.0) (earlier_day y m d d' is same.1)
+    ])

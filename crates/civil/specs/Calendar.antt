@@ -1,0 +1,71 @@
+-- The proleptic Gregorian calendar, with a year 0, counted year by year and month by month.
+use Rattle.std.specs.Prelude.{ℕ, zero, suc, ◌+◌, ◌-◌, ◌*◌, ◌%◌, ◌≤◌, Bool, not, ◌&&◌, ◌||◌, ◌==◌, if◌then◌else◌, ℤ, pos, negsuc, ◌+ℤ◌, ◌-ℤ◌, ◌*ℤ◌, ◌≤ℤ◌, neg_ℤ, unsigned_abs}
+use Rattle.std.specs.Int.{int_div_euclid, int_rem_euclid}
+
+-- 4 divides the year and 100 does not, or 400 divides it
+abbrev pub is_leap_year : ℤ → Bool
+is_leap_year y =
+    (unsigned_abs y % 4 == 0) && (not (unsigned_abs y % 100 == 0) || (unsigned_abs y % 400 == 0))
+
+abbrev pub days_in_year : ℤ → ℕ
+days_in_year y = if is_leap_year y then 366 else 365
+
+-- thirty days have September, April, June and November
+abbrev pub days_in_month : ℤ → ℕ → ℕ
+days_in_month y m =
+    if m == 2 then (if is_leap_year y then 29 else 28)
+    else (if (m == 4) || (m == 6) || (m == 9) || (m == 11) then 30 else 31)
+
+-- the days of the n years from the year 0 on
+unfoldable pub days_from_zero : ℕ → ℕ
+days_from_zero zero = 0
+days_from_zero (suc n) = days_from_zero n + days_in_year (pos n)
+
+-- the days of the n years before the year 0
+unfoldable pub days_to_zero : ℕ → ℕ
+days_to_zero zero = 0
+days_to_zero (suc n) = days_to_zero n + days_in_year (negsuc n)
+
+-- the day number of 1 January; `Laws` says that it is 0 for 1970 and grows by each year's days
+unfoldable pub year_start : ℤ → ℤ
+year_start (pos n) = pos (days_from_zero n) -ℤ pos (days_from_zero 1970)
+year_start (negsuc n) = neg_ℤ (pos (days_to_zero (suc n) + days_from_zero 1970))
+
+-- the same leap days by division, rounded down: what the code computes with
+unfoldable pub leap_days_to : ℤ → ℤ
+leap_days_to y = int_div_euclid y (pos 4) -ℤ int_div_euclid y (pos 100) +ℤ int_div_euclid y (pos 400)
+
+-- the days of the first n months of the year
+unfoldable pub days_of_months : ℤ → ℕ → ℕ
+days_of_months y zero = 0
+days_of_months y (suc n) = days_of_months y n + days_in_month y (suc n)
+
+-- the day number of a date
+unfoldable pub day_of : ℤ → ℕ → ℕ → ℤ
+day_of y m d = year_start y +ℤ pos (days_of_months y (m - 1) + (d - 1))
+
+-- the weekday of a day, with Monday 0: day 0 is a Thursday
+abbrev pub weekday_of : ℤ → ℤ
+weekday_of day = int_rem_euclid (day +ℤ pos 3) (pos 7)
+
+-- the wall second of a clock time on a day; its hours may pass 23
+abbrev pub wall_second : ℤ → ℕ → ℕ → ℕ → ℤ
+wall_second day hour minute second = pos 86400 *ℤ day +ℤ pos (3600 * hour + 60 * minute + second)
+
+-- the first second of a year
+abbrev pub year_second : ℤ → ℤ
+year_second y = pos 86400 *ℤ year_start y
+
+-- the calendar has this date
+pub record IsDate (y : ℤ) (m d : ℕ) : Type 0 where
+  pub first_year : negsuc 262142 ≤ℤ y
+  pub last_year : y ≤ℤ pos 262142
+  pub first_month : 1 ≤ m
+  pub last_month : m ≤ 12
+  pub first_day : 1 ≤ d
+  pub last_day : d ≤ days_in_month y m
+
+-- the calendar has the day of this number
+pub record IsDay (day : ℤ) : Type 0 where
+  pub first : negsuc 96465291 ≤ℤ day
+  pub last : day ≤ℤ pos 95026236

@@ -1,0 +1,27 @@
+ghost use Rattle.std.specs.Prelude.{◌≡◌, pos, negsuc};
+ghost use Rattle.civil.specs.Calendar.{day_of};
+ghost use Rattle.civil.specs.Laws.{CountsYears, DatesAreDays};
+
+use crate::date::NaiveDate;
+
+/// Day numbers are counted year by year: day 0 begins the year 1970, and each year, also before
+/// 1970, begins where the one before it ends.
+pub fn counts_years()
+    ensures { CountsYears }
+{}
+
+/// Dates and day numbers correspond one to one, in the same order: each date has a day number of
+/// the calendar, an earlier date has a smaller one, and each day number is that of a date.
+pub fn dates_are_days()
+    ensures { DatesAreDays }
+{}
+
+/// The first and the last date, with their day numbers.
+pub fn ends() -> (NaiveDate, NaiveDate)
+    ensures first { result.0 ≡ negsuc 96465291 }
+    ensures first_date { result.0 ≡ day_of (negsuc 262142) 1 1 }
+    ensures last { result.1 ≡ pos 95026236 }
+    ensures last_date { result.1 ≡ day_of (pos 262142) 12 31 }
+{
+    (NaiveDate::MIN, NaiveDate::MAX)
+}

@@ -1,0 +1,6 @@
+use Rattle.std.proofs.Common.{◌≡◌, ◌-◌}
+use Rattle.resb.specs.Words.{run, byte_in}
+use Rattle.resb.proofs.words.bytes_from.Given as goal
+
+abbrev pub invariant-loop-at : goal.invariant-loop-at
+invariant-loop-at l = l.found.items ≡ run (byte_in l.words) l.from (l.at - l.from)

@@ -1,0 +1,6 @@
+use Rattle.std.proofs.Common.{◌≡◌, ◌-◌}
+use Rattle.resb.specs.Words.{run, unit_in}
+use Rattle.resb.proofs.words.units_from.Given as goal
+
+abbrev pub invariant-loop-at : goal.invariant-loop-at
+invariant-loop-at l = l.found.items ≡ run (unit_in l.words) l.from (l.at - l.from)

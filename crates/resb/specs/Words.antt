@@ -1,0 +1,16 @@
+-- Words of 32 bits, and the bytes and 16-bit units in them, low ones first.
+use Rattle.std.specs.Prelude.{ℕ, zero, suc, ◌+◌, ◌/◌, ◌%◌, List, [], ◌∷◌, slice_index, if◌then◌else◌, ◌==◌}
+
+abbrev pub byte_in : List ℕ → ℕ → ℕ
+byte_in words place =
+    let word = slice_index words (place / 4) in
+    let k = place % 4 in
+    if k == 0 then word % 256 else (if k == 1 then word / 256 % 256 else (if k == 2 then word / 65536 % 256 else word / 16777216))
+
+abbrev pub unit_in : List ℕ → ℕ → ℕ
+unit_in words place = let word = slice_index words (place / 2) in if place % 2 == 0 then word % 65536 else word / 65536
+
+-- count values from a place on
+abbrev pub run : {A : Type 0} → (ℕ → A) → ℕ → ℕ → List A
+run at from zero = []
+run at from (suc count) = at from ∷ run at (from + 1) count

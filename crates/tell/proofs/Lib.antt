@@ -1,0 +1,11 @@
+pub mod Digits
+pub mod BytesLemmas
+pub mod TellingLemmas
+pub mod AnswerLemmas
+pub mod ReportLemmas
+pub mod RunLemmas
+pub mod Tail
+pub mod PlainSteps
+pub mod LineEnds
+pub mod DayBounds
+pub mod OneAnswer

@@ -1,0 +1,12 @@
+use Rattle.std.proofs.Common.{arith}
+use Rattle.std.proofs.Math.Nat.{pow-le-pow_right}
+use Rattle.tell.proofs.fields.number.Goals as goal
+
+pub overflow_mul-value : goal.overflow_mul-value
+overflow_mul-value c = omega (arith, pow-le-pow_right {n = 10} (omega arith) {i = c.loop-digit.digit-index} {j = 11} (omega arith))
+
+pub overflow_add-value : goal.overflow_add-value
+overflow_add-value c = omega (arith, pow-le-pow_right {n = 10} (omega arith) {i = c.loop-digit.digit-index} {j = 11} (omega arith))
+
+pub returns-clause-small : goal.returns-clause-small
+returns-clause-small c = omega (arith, pow-le-pow_right {n = 10} (omega arith) {i = c.loop-digit.digit-index} {j = 12} (omega arith))

@@ -1,0 +1,5 @@
+use Rattle.tell.proofs.OneAnswer.{one_report}
+use Rattle.tell.proofs.laws.one_report.Goals as goal
+
+pub returns : goal.returns
+returns c = one_report

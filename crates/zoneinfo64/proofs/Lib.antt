@@ -1,0 +1,14 @@
+pub mod OneOffset
+pub mod Names
+pub mod Entries
+pub mod Places
+pub mod Ascii
+pub mod TextOrder
+pub mod NameOrder
+pub mod Fronts
+pub mod Pairs
+pub mod Zones
+pub mod Rising
+pub mod Bundles
+pub mod Regions
+pub mod SimpleLists

@@ -1,0 +1,13 @@
+use Rattle.zoneinfo64.proofs.Names.{zone-found, zone-missing}
+use Rattle.zoneinfo64.proofs.zone.ZoneInfo64.get.Goals as goal
+
+pub invariant_of-result : goal.invariant_of-result
+invariant_of-result c =
+    record { in_place = (zone-found _ _ _ _ _ c.self.invariant c.as_slice.ensures.value c.self.view_is c.in-Some.ensures).0 }
+
+pub returns-in-Some-clause-zone : goal.returns-in-Some-clause-zone
+returns-in-Some-clause-zone c =
+    zone-found _ _ _ _ _ c.self.invariant c.as_slice.ensures.value c.self.view_is c.in-Some.ensures
+
+pub returns-in-None-clause-none : goal.returns-in-None-clause-none
+returns-in-None-clause-none c = zone-missing _ _ _ _ c.self.invariant c.as_slice.ensures.value c.self.view_is c.in-None.ensures

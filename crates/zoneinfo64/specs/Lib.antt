@@ -1,0 +1,13 @@
+pub mod Zone
+pub mod Rule
+pub mod Timeline
+pub mod Placement
+pub mod Laws
+pub mod Lookups
+pub mod NamedZone
+pub mod Bundle
+pub mod Simple
+pub mod Promises
+pub mod ZoneView
+pub mod ZoneList
+pub mod Steps

@@ -1,0 +1,47 @@
+-- A bundle as plain data: its zones by name, in order.
+use Rattle.std.specs.Prelude.{ℕ, List, slice_get, Option, Some, None, encode_utf8_all}
+use Rattle.std.specs.Char.Utf16.{utf16_lossy_chars}
+use Rattle.std.specs.Str.{bytes_eq}
+use Rattle.std.specs.List.{find}
+use Rattle.zoneinfo64.specs.Zone.{PlainZone}
+
+-- a zone, or the place of one
+pub data Place : Type 0 where
+  IsZone : PlainZone → Place
+  IsAlias : ℕ → Place
+
+-- the units of a name, the three bytes of a region, and what stands there
+pub record NamedZone : Type 0 where
+  pub name : List ℕ
+  pub region : List ℕ
+  pub place : Place
+
+-- the characters of a name as UTF-8; a surrogate without a partner is U+FFFD. Two names are equal character by character
+-- where these bytes are equal, and one comes before another where its bytes do
+abbrev pub name_text : List ℕ → List ℕ
+name_text units = encode_utf8_all (utf16_lossy_chars units)
+
+abbrev pub zone_of : Place → Option PlainZone
+zone_of (IsZone z) = Some z
+zone_of (IsAlias n) = None
+
+abbrev pub zone_in : Option NamedZone → Option PlainZone
+zone_in None = None
+zone_in (Some e) = zone_of e.place
+
+-- the zone at a place, where that is no alias
+abbrev pub zone_at : List NamedZone → ℕ → Option PlainZone
+zone_at zones n = zone_in (slice_get zones n)
+
+-- an alias is replaced by the zone at its place
+abbrev pub resolved : List NamedZone → Place → Option PlainZone
+resolved zones (IsZone z) = Some z
+resolved zones (IsAlias n) = zone_at zones n
+
+abbrev pub resolved_in : List NamedZone → Option NamedZone → Option PlainZone
+resolved_in zones None = None
+resolved_in zones (Some e) = resolved zones e.place
+
+-- the zone whose name is this text, or none
+unfoldable pub named : List NamedZone → List ℕ → Option PlainZone
+named zones text = resolved_in zones (find (λ (e : NamedZone). bytes_eq (name_text e.name) text) zones)
