@@ -13,7 +13,7 @@ use Rattle.resb.specs.Keys.{stands_in, distinct, keys_in}
 abbrev pub by_bytes : Bor (List ℕ) → Bor (List ℕ) → Ordering
 by_bytes x y = slice_cmp nat_cmp x.now y.now
 
-bytes_eq_sym : (xs ys : List ℕ) → bytes_eq xs ys ≡ bytes_eq ys xs
+pub bytes_eq_sym : (xs ys : List ℕ) → bytes_eq xs ys ≡ bytes_eq ys xs
 bytes_eq_sym xs ys =
     let h = bytes_eq-Decides ys xs in
     one_answer _ _ (bytes_eq-Decides xs ys) (λ e. sym (h.0 e), λ e. h.1 (sym e))

@@ -6,3 +6,17 @@ pub mod KeySets
 pub mod Limits
 pub mod Within
 pub mod Cases
+pub mod Folds
+pub mod Pools
+pub mod LaidWords
+pub mod LaidSteps
+pub mod WrittenWords
+pub mod PackedWords
+pub mod Layers
+pub mod PoolReads
+pub mod ReadBack
+pub mod Trees
+pub mod GoodKeys
+pub mod Denotes
+pub mod OneZone
+pub mod TypeSizes

@@ -6,3 +6,8 @@ pub mod Header
 pub mod Forms
 pub mod Reading
 pub mod Fields
+pub mod Writing
+pub mod Pool
+pub mod Plan
+pub mod Texts
+pub mod Laws

@@ -1,5 +1,4 @@
--- What one pass over the words gives under a limit on weight, in the steps of the code. That this is the tree, where it is not too
--- heavy, is proved (`within_is`); so only `Gives` is to be believed here.
+-- What one pass over the words gives under a limit on weight.
 use Rattle.std.specs.Prelude.{◌≡◌, ℕ, zero, suc, ◌-◌, ◌+◌, ◌/◌, ◌%◌, ◌||◌, List, [], ◌∷◌, map, ◌*◌, slice_index, if◌then◌else◌, ◌==◌, Option, Some, None, Result, Ok, Err, nat_le, nat_lt, cond}
 use Rattle.resb.specs.declared.resource.Resource.{Resource}
 use Rattle.resb.specs.declared.error.ResbError.{ResbError}

@@ -1,13 +1,15 @@
 use std::alloc::{AllocError, AllocFailed};
+use std::fmt;
+use std::fmt::{Display, Formatter, Write};
 
 /// Why there is no tree, or no words.
 #[derive(Clone, Copy, Debug, PartialEq, Eq)]
 pub enum ResbError {
-    /// Memory could not be found.
+    /// Memory ran out.
     Memory,
     /// The words denote no tree.
     NoTree,
-    /// The tree does not fit a bundle.
+    /// A bundle has no room for the tree.
     TooLarge,
     /// A key has a byte outside 1 to 127, or stands twice in one table.
     BadKey,
@@ -32,5 +34,21 @@ impl<T: Drop> From<AllocFailed<T>> for ResbError {
 
     fn from(_: AllocFailed<T>) -> ResbError {
         ResbError::Memory
+    }
+}
+
+impl Display for ResbError {
+    ghost use Rattle.std.specs.Prelude.{Some};
+    ghost use Rattle.resb.specs.Texts.{error_text};
+
+    ghost output = { λ e. Some (error_text e) };
+
+    fn fmt<W: Write>(&self, f: &mut Formatter<W>) -> fmt::Result {
+        f.write_str(match self {
+            ResbError::Memory => "memory could not be found",
+            ResbError::NoTree => "no resource tree",
+            ResbError::TooLarge => "tree too large",
+            ResbError::BadKey => "bad key",
+        })
     }
 }

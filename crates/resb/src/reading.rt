@@ -76,12 +76,7 @@ fn body_of(words: &[u32]) -> Result<BodyWords<'_>, ResbError>
     })
 }
 
-/// The tree that the words of a bundle denote (ICU resource bundle, format 2). A word is four bytes, low byte first;
-/// there are at most 1,048,576.
-///
-/// Gives `NoTree` exactly where the words denote no tree: where the header, the index or an item breaks a rule of the
-/// format, where the tree is deeper than 8, or where it weighs more than 8 for each word, shared resources counted as
-/// often as they are reached. Gives `Memory` where memory could not be found, and no other error.
+/// The tree that the words of a bundle denote.
 #[tactic(auto, unfolding(crate::specs::Header::tree_of))]
 pub fn read(alloc: Global, words: &[u32]) -> Result<Resource, ResbError>
     ensures { Gives (λ x. x) result (tree_of words.now) }

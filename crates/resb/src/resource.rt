@@ -9,13 +9,11 @@ use sqlite_items::Items;
 pub enum Resource {
     /// UTF-16 units, which may hold surrogates that stand alone.
     Text(Items<u16>),
-    /// Bytes.
     Bytes(Items<u8>),
     /// Keys with their values. Trees that `read` gives have each key once.
     Table(Items<(Items<u8>, Resource)>),
     /// A number, which a bundle holds in 28 bits.
     Integer(u32),
-    /// Resources of any kinds.
     Array(Items<Resource>),
     /// Numbers of 32 bits.
     Integers(Items<u32>),
@@ -46,7 +44,7 @@ fn sign_extended(v: u32) -> i32
 }
 
 impl Resource {
-    /// The units of a text; `None` for another kind.
+    /// The units of a text.
     pub fn text(&self) -> Option<&[u16]>
         ensures { seen result ≡ text_in self.now }
     {
@@ -56,7 +54,7 @@ impl Resource {
         }
     }
 
-    /// The bytes of a list of bytes; `None` for another kind.
+    /// The bytes of a list of bytes.
     pub fn bytes(&self) -> Option<&[u8]>
         ensures { seen result ≡ bytes_in self.now }
     {
@@ -66,7 +64,7 @@ impl Resource {
         }
     }
 
-    /// The numbers of a list of integers, of 32 bits each; `None` for another kind.
+    /// The numbers of a list of integers, of 32 bits each.
     pub fn integers(&self) -> Option<&[u32]>
         ensures { seen result ≡ integers_in self.now }
     {
@@ -76,7 +74,7 @@ impl Resource {
         }
     }
 
-    /// The items of an array; `None` for another kind.
+    /// The items of an array.
     pub fn items(&self) -> Option<&[Resource]>
         ensures { seen result ≡ items_in self.now }
     {
@@ -86,7 +84,7 @@ impl Resource {
         }
     }
 
-    /// The entries of a table, in its order; `None` for another kind.
+    /// The entries of a table, in its order.
     pub fn entries(&self) -> Option<&[(Items<u8>, Resource)]>
         ensures { seen result ≡ entries_in self.now }
     {
@@ -96,7 +94,7 @@ impl Resource {
         }
     }
 
-    /// The low 28 bits of an integer, as a number from 0 to 268,435,455; `None` for another kind.
+    /// The low 28 bits of an integer, as a number from 0 to 268,435,455.
     pub fn index(&self) -> Option<u32>
         ensures { result ≡ index_in self.now }
     {
@@ -106,7 +104,7 @@ impl Resource {
         }
     }
 
-    /// The low 28 bits of an integer, as a number from -134,217,728 to 134,217,727; `None` for another kind.
+    /// The low 28 bits of an integer, as a number from -134,217,728 to 134,217,727.
     pub fn signed(&self) -> Option<i32>
         ensures { result ≡ signed_in self.now }
     {
@@ -116,8 +114,7 @@ impl Resource {
         }
     }
 
-    /// A table's value for a key, the first where the key stands more than once; `None` without the key, and for another
-    /// kind.
+    /// A table's value for a key, the first where the key stands more than once.
     pub fn field(&self, key: &[u8]) -> Option<&Resource>
         ensures { option_copied result ≡ field_in key.now self.now }
     {

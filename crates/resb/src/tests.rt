@@ -4,7 +4,7 @@ use std::alloc::{AllocError, Global};
 use std::test::Fail;
 
 /// A bundle of one zone, `Test/Plus2`, two hours east of Greenwich. Word 6 is the root item.
-const ONE_ZONE: [u32; 52] = [
+pub const ONE_ZONE: [u32; 52] = [
     0x27da_0018,
     0x0000_0014,
     0x0002_0000,
@@ -99,87 +99,67 @@ fn small(
     Ok(words)
 }
 
-/// Whether there is no tree. An error of another kind is passed on.
-fn is_refused(alloc: Global, words: &[u32]) -> Result<bool, ResbError> {
-    match read(alloc, words) {
-        Ok(_) => Ok(false),
-        Err(ResbError::NoTree) => Ok(true),
-        Err(error) => Err(error),
+fn is_no_tree(answer: Result<Resource, ResbError>) -> bool {
+    match answer {
+        Ok(_) => false,
+        Err(error) => error == ResbError::NoTree,
     }
 }
 
-fn has_key(tree: &Resource, at: usize, key: &[u8]) -> bool {
-    let Some(entries) = tree.entries() else {
-        return false;
-    };
-    match entries.get(at) {
-        Some((name, _)) => name.as_slice() == key,
-        None => false,
-    }
-}
-
-fn is_text(resource: Option<&Resource>, units: &[u16]) -> bool {
-    let Some(resource) = resource else {
-        return false;
-    };
+fn has_text(resource: &Resource, units: &[u16]) -> bool {
     match resource.text() {
         Some(text) => text == units,
         None => false,
     }
 }
 
-fn is_integers(resource: Option<&Resource>, values: &[u32]) -> bool {
-    let Some(resource) = resource else {
-        return false;
-    };
+fn has_integers(resource: &Resource, values: &[u32]) -> bool {
     match resource.integers() {
         Some(integers) => integers == values,
         None => false,
     }
 }
 
-/// An item of an array.
-fn item(array: Option<&Resource>, at: usize) -> Option<&Resource> {
-    array?.items()?.get(at)
-}
-
-/// How many items or entries a resource has.
-fn count(resource: Option<&Resource>) -> usize {
-    let Some(resource) = resource else {
-        return 0;
-    };
-    match (resource.items(), resource.entries()) {
-        (Some(items), _) => items.len(),
-        (_, Some(entries)) => entries.len(),
-        _ => 0,
-    }
-}
-
-const TEST_PLUS2: [u16; 10] = [84, 101, 115, 116, 47, 80, 108, 117, 115, 50];
+pub const TEST_PLUS2: [u16; 10] = [84, 101, 115, 116, 47, 80, 108, 117, 115, 50];
 
 const HI: [u16; 2] = [72, 105];
 
 #[test]
 fn reads_one_zone(rt: HostRuntime) -> Result<(), Fail> {
     let tree = read(rt.alloc(), ONE_ZONE.as_slice())?;
-    let keys = [
-        b"Zones".as_slice(),
-        b"Names".as_slice(),
-        b"Rules".as_slice(),
-        b"Regions".as_slice(),
-    ];
-    for (at, key) in keys.iter().enumerate() {
-        assert!(rt; has_key(&tree, at, key));
-    }
-    assert_eq!(rt; count(Some(&tree)), 4);
-    let zones = tree.field(b"Zones");
-    assert_eq!(rt; count(zones), 1);
-    let offsets = item(zones, 0).and_then(|zone| zone.field(b"typeOffsets"));
-    assert!(rt; is_integers(offsets, &[7200, 0]));
-    assert_eq!(rt; count(tree.field(b"Names")), 1);
-    assert!(rt; is_text(item(tree.field(b"Names"), 0), TEST_PLUS2.as_slice()));
-    assert_eq!(rt; count(tree.field(b"Rules")), 0);
-    assert!(rt; is_text(item(tree.field(b"Regions"), 0), &[48, 48, 49]));
+    let entries = tree.entries().ok_or("a table")?;
+    assert_eq!(rt; entries.len(), 4);
+    assert_eq!(rt; entries[0].0.as_slice(), b"Zones".as_slice());
+    assert_eq!(rt; entries[1].0.as_slice(), b"Names".as_slice());
+    assert_eq!(rt; entries[2].0.as_slice(), b"Rules".as_slice());
+    assert_eq!(rt; entries[3].0.as_slice(), b"Regions".as_slice());
+    let zones = tree
+        .field(b"Zones")
+        .ok_or("zones")?
+        .items()
+        .ok_or("an array")?;
+    assert_eq!(rt; zones.len(), 1);
+    assert!(rt; has_integers(zones[0].field(b"typeOffsets").ok_or("offsets")?, &[7200, 0]));
+    let names = tree
+        .field(b"Names")
+        .ok_or("names")?
+        .items()
+        .ok_or("an array")?;
+    assert_eq!(rt; names.len(), 1);
+    assert!(rt; has_text(&names[0], TEST_PLUS2.as_slice()));
+    let rules = tree
+        .field(b"Rules")
+        .ok_or("rules")?
+        .entries()
+        .ok_or("a table")?;
+    assert_eq!(rt; rules.len(), 0);
+    let regions = tree
+        .field(b"Regions")
+        .ok_or("regions")?
+        .items()
+        .ok_or("an array")?;
+    assert_eq!(rt; regions.len(), 1);
+    assert!(rt; has_text(&regions[0], &[48, 48, 49]));
     assert!(rt; tree.field(b"Zone").is_none());
     Ok(())
 }
@@ -187,9 +167,9 @@ fn reads_one_zone(rt: HostRuntime) -> Result<(), Fail> {
 #[test]
 fn refuses_other_words(rt: HostRuntime) -> Result<(), Fail> {
     let alloc = rt.alloc();
-    assert!(rt; is_refused(alloc, &[])?);
+    assert!(rt; is_no_tree(read(alloc, &[])));
     // without the last word the end of the bundle is past the words
-    assert!(rt; is_refused(alloc, &ONE_ZONE[..51])?);
+    assert!(rt; is_no_tree(read(alloc, &ONE_ZONE[..51])));
     let edits = [
         (0, 0x27da_0000, "a header of 0 bytes"),
         (0, 0x27da_0014, "a header of 20 bytes"),
@@ -223,118 +203,119 @@ fn refuses_other_words(rt: HostRuntime) -> Result<(), Fail> {
     ];
     for (at, word, what) in edits {
         let words = edited(alloc, at, word)?;
-        assert!(rt; is_refused(alloc, words.as_slice())?, "{what}");
+        assert!(rt; is_no_tree(read(alloc, words.as_slice())), "{what}");
     }
-    // 27 integers from body word 19 on reach just to the end
+    // 27 integers reach just to the end
     let words = edited(alloc, 24, 27)?;
-    assert!(rt; !is_refused(alloc, words.as_slice())?);
+    let tree = read(alloc, words.as_slice())?;
+    let zones = tree
+        .field(b"Zones")
+        .ok_or("zones")?
+        .items()
+        .ok_or("an array")?;
+    assert_eq!(rt; zones.len(), 1);
+    let offsets = zones[0]
+        .field(b"typeOffsets")
+        .ok_or("offsets")?
+        .integers()
+        .ok_or("integers")?;
+    assert_eq!(rt; offsets.len(), 27);
     Ok(())
 }
 
 #[test]
 fn reads_short_texts(rt: HostRuntime) -> Result<(), Fail> {
-    let cases = [
-        // a zero unit ends it
-        (0x6000_0000, 11, [0x0069_0048, 0, 0], HI.as_slice()),
-        // it begins at the zero unit
-        (0x6000_0002, 11, [0x0069_0048, 0, 0], &[]),
-        // DC02: two units
-        (
-            0x6000_0000,
-            11,
-            [0x0048_dc02, 0x0000_0069, 0],
-            HI.as_slice(),
-        ),
-        // DFEF: the next unit tells how many
-        (
-            0x6000_0000,
-            11,
-            [0x0002_dfef, 0x0069_0048, 0],
-            HI.as_slice(),
-        ),
-        // DFFF: the next two units do, the high one first
-        (
-            0x6000_0000,
-            12,
-            [0x0000_dfff, 0x0048_0002, 0x0000_0069],
-            HI.as_slice(),
-        ),
-    ];
-    for (root, area_end, rest, units) in cases {
-        let words = small(rt.alloc(), root, area_end, 12, rest.as_slice())?;
-        let tree = read(rt.alloc(), words.as_slice())?;
-        assert!(rt; is_text(Some(&tree), units));
-    }
+    let alloc = rt.alloc();
+    // a zero unit ends it
+    let words = small(alloc, 0x6000_0000, 11, 11, &[0x0069_0048, 0])?;
+    assert!(rt; has_text(&read(alloc, words.as_slice())?, HI.as_slice()));
+    // it begins at the zero unit
+    let words = small(alloc, 0x6000_0002, 11, 11, &[0x0069_0048, 0])?;
+    assert!(rt; has_text(&read(alloc, words.as_slice())?, &[]));
+    // DC02: two units
+    let words = small(alloc, 0x6000_0000, 11, 11, &[0x0048_dc02, 0x0000_0069])?;
+    assert!(rt; has_text(&read(alloc, words.as_slice())?, HI.as_slice()));
+    // DFEF: the next unit tells how many
+    let words = small(alloc, 0x6000_0000, 11, 11, &[0x0002_dfef, 0x0069_0048])?;
+    assert!(rt; has_text(&read(alloc, words.as_slice())?, HI.as_slice()));
+    // DFFF: the next two units do, the high one first
+    let words = small(
+        alloc,
+        0x6000_0000,
+        12,
+        12,
+        &[0x0000_dfff, 0x0048_0002, 0x0000_0069],
+    )?;
+    assert!(rt; has_text(&read(alloc, words.as_slice())?, HI.as_slice()));
     // the zero unit is behind the area
-    let words = small(rt.alloc(), 0x6000_0000, 10, 11, &[0x0069_0048, 0])?;
-    assert!(rt; is_refused(rt.alloc(), words.as_slice())?);
+    let words = small(alloc, 0x6000_0000, 10, 11, &[0x0069_0048, 0])?;
+    assert!(rt; is_no_tree(read(alloc, words.as_slice())));
     // the third unit is behind the area
-    let words = small(rt.alloc(), 0x6000_0001, 11, 11, &[0xdc03_0000, 0x0069_0048])?;
-    assert!(rt; is_refused(rt.alloc(), words.as_slice())?);
+    let words = small(alloc, 0x6000_0001, 11, 11, &[0xdc03_0000, 0x0069_0048])?;
+    assert!(rt; is_no_tree(read(alloc, words.as_slice())));
     Ok(())
 }
 
 #[test]
-fn reads_short_array(rt: HostRuntime) -> Result<(), Fail> {
+fn reads_short_arrays_and_tables(rt: HostRuntime) -> Result<(), Fail> {
+    let alloc = rt.alloc();
     // units: the text `x` and its zero unit; two items, the text at unit 0 and the one at unit 1
     let words = small(
-        rt.alloc(),
+        alloc,
         0x9000_0002,
         12,
         12,
         &[0x0000_0078, 0x0000_0002, 0x0000_0001],
     )?;
-    let tree = read(rt.alloc(), words.as_slice())?;
-    assert_eq!(rt; count(Some(&tree)), 2);
-    assert!(rt; is_text(item(Some(&tree), 0), &[120]));
-    assert!(rt; is_text(item(Some(&tree), 1), &[]));
-    Ok(())
-}
-
-#[test]
-fn reads_short_table(rt: HostRuntime) -> Result<(), Fail> {
-    // units: the text `x` and its zero unit; two key places; the texts at unit 0 and at unit 1
+    let tree = read(alloc, words.as_slice())?;
+    let items = tree.items().ok_or("an array")?;
+    assert_eq!(rt; items.len(), 2);
+    assert!(rt; has_text(&items[0], &[120]));
+    assert!(rt; has_text(&items[1], &[]));
+    // the same texts under the keys `b` and `a`
     let words = small(
-        rt.alloc(),
+        alloc,
         0x5000_0002,
         13,
         13,
         &[0x0000_0078, 0x0022_0002, 0x0000_0020, 0x0000_0001],
     )?;
-    let tree = read(rt.alloc(), words.as_slice())?;
-    assert_eq!(rt; count(Some(&tree)), 2);
-    assert!(rt; has_key(&tree, 0, b"b"));
-    assert!(rt; is_text(tree.field(b"b"), &[120]));
-    assert!(rt; is_text(tree.field(b"a"), &[]));
+    let tree = read(alloc, words.as_slice())?;
+    let entries = tree.entries().ok_or("a table")?;
+    assert_eq!(rt; entries.len(), 2);
+    assert_eq!(rt; entries[0].0.as_slice(), b"b".as_slice());
+    assert_eq!(rt; entries[1].0.as_slice(), b"a".as_slice());
+    assert!(rt; has_text(&entries[0].1, &[120]));
+    assert!(rt; has_text(&entries[1].1, &[]));
     Ok(())
 }
 
 #[test]
-fn reads_wide_table(rt: HostRuntime) -> Result<(), Fail> {
+fn reads_wide_tables_and_bytes(rt: HostRuntime) -> Result<(), Fail> {
+    let alloc = rt.alloc();
     // two key places of a word each, then the integers 5 and 268435454
     let words = small(
-        rt.alloc(),
+        alloc,
         0x4000_0009,
         9,
         14,
         &[2, 32, 34, 0x7000_0005, 0x7fff_fffe],
     )?;
-    let tree = read(rt.alloc(), words.as_slice())?;
-    assert!(rt; tree.field(b"a").and_then(|a| a.index()) == Some(5));
-    assert!(rt; tree.field(b"b").and_then(|b| b.signed()) == Some(-2));
-    Ok(())
-}
-
-#[test]
-fn reads_bytes(rt: HostRuntime) -> Result<(), Fail> {
-    let words = small(
-        rt.alloc(),
-        0x1000_0009,
-        9,
-        12,
-        &[5, 0x0403_0201, 0x0000_0005],
-    )?;
-    let tree = read(rt.alloc(), words.as_slice())?;
+    let tree = read(alloc, words.as_slice())?;
+    assert_eq!(rt;
+        tree.field(b"a").ok_or("a")?.index().ok_or("an integer")?,
+        5
+    );
+    assert_eq!(rt;
+        tree.field(b"b").ok_or("b")?.index().ok_or("an integer")?,
+        268_435_454
+    );
+    assert_eq!(rt;
+        tree.field(b"b").ok_or("b")?.signed().ok_or("an integer")?,
+        -2
+    );
+    let words = small(alloc, 0x1000_0009, 9, 12, &[5, 0x0403_0201, 0x0000_0005])?;
+    let tree = read(alloc, words.as_slice())?;
     assert_eq!(rt; tree.bytes().ok_or("bytes")?, [1, 2, 3, 4, 5].as_slice());
     Ok(())
 }
@@ -376,10 +357,13 @@ fn long_table(alloc: Global, last: u32) -> Result<Vec<u32>, AllocError> {
 
 #[test]
 fn reads_long_tables(rt: HostRuntime) -> Result<(), Fail> {
-    for (last, refused) in [(48, false), (32, true)] {
-        let words = long_table(rt.alloc(), last)?;
-        assert_eq!(rt; is_refused(rt.alloc(), words.as_slice())?, refused);
-    }
+    let alloc = rt.alloc();
+    let words = long_table(alloc, 48)?;
+    let tree = read(alloc, words.as_slice())?;
+    assert_eq!(rt; tree.entries().ok_or("a table")?.len(), 17);
+    assert!(rt; tree.field(b"q").is_some());
+    let words = long_table(alloc, 32)?;
+    assert!(rt; is_no_tree(read(alloc, words.as_slice())));
     Ok(())
 }
 
@@ -405,18 +389,22 @@ fn heavy(alloc: Global, item: u32) -> Result<Vec<u32>, AllocError> {
 
 #[test]
 fn weighs_up_to_the_limit(rt: HostRuntime) -> Result<(), Fail> {
-    // 1 for the array, 31 for each list and 1 for an integer are 560, which is 8 for each of 70 words; one byte weighs 2
-    for (last, refused) in [(0x7000_0000, false), (0x1000_0009, true)] {
-        let words = heavy(rt.alloc(), last)?;
-        assert_eq!(rt; words.len(), 70);
-        assert_eq!(rt; is_refused(rt.alloc(), words.as_slice())?, refused);
-    }
+    let alloc = rt.alloc();
+    // 1 for the array, 31 for each list and 1 for an integer are 560, which is 8 for each word
+    let words = heavy(alloc, 0x7000_0000)?;
+    assert_eq!(rt; words.len(), 70);
+    let tree = read(alloc, words.as_slice())?;
+    assert_eq!(rt; tree.items().ok_or("an array")?.len(), 19);
+    // one byte weighs 2
+    let words = heavy(alloc, 0x1000_0009)?;
+    assert!(rt; is_no_tree(read(alloc, words.as_slice())));
     Ok(())
 }
 
 #[test]
 fn reads_eight_levels(rt: HostRuntime) -> Result<(), Fail> {
-    // eight arrays of one item each, and an integer
+    let alloc = rt.alloc();
+    // arrays of one item each, and an integer
     let arrays = [
         1,
         0x8000_000b,
@@ -435,43 +423,37 @@ fn reads_eight_levels(rt: HostRuntime) -> Result<(), Fail> {
         1,
         0x7000_0000,
     ];
-    for (root, refused) in [(0x8000_000b, false), (0x8000_0009, true)] {
-        let words = small(rt.alloc(), root, 9, 25, arrays.as_slice())?;
-        assert_eq!(rt; is_refused(rt.alloc(), words.as_slice())?, refused);
-    }
+    let words = small(alloc, 0x8000_0009, 9, 25, arrays.as_slice())?;
+    assert!(rt; is_no_tree(read(alloc, words.as_slice())));
+    let words = small(alloc, 0x8000_000b, 9, 25, arrays.as_slice())?;
+    assert!(rt; read(alloc, words.as_slice()).is_ok());
     Ok(())
 }
 
-/// A table in which one key stands twice.
-fn doubled(alloc: Global) -> Result<Resource, AllocError> {
+#[test]
+fn tells_fields(rt: HostRuntime) -> Result<(), Fail> {
+    let alloc = rt.alloc();
     let mut entries = Items::new(alloc);
-    entries.push((Items::from_slice(alloc, b"k")?, Resource::Integer(1)))?;
+    entries.push((
+        Items::from_slice(alloc, b"k")?,
+        Resource::Integer(0x1fff_ffff),
+    ))?;
     entries.push((Items::from_slice(alloc, b"k")?, Resource::Integer(2)))?;
-    Ok(Resource::Table(entries))
-}
-
-#[test]
-fn tells_the_first_field(rt: HostRuntime) -> Result<(), Fail> {
-    let table = doubled(rt.alloc())?;
-    assert!(rt; table.field(b"k").and_then(|first| first.index()) == Some(1));
-    assert!(rt; table.index().is_none() && table.items().is_none());
+    let table = Resource::Table(entries);
+    let first = table.field(b"k").ok_or("k")?;
+    // the low 28 bits
+    assert_eq!(rt; first.index().ok_or("an integer")?, 0x0fff_ffff);
+    assert_eq!(rt; first.signed().ok_or("an integer")?, -1);
+    assert_eq!(rt;
+        Resource::Integer(0x07ff_ffff).signed().ok_or("an integer")?,
+        134_217_727
+    );
+    assert_eq!(rt;
+        Resource::Integer(0x0800_0000).signed().ok_or("an integer")?,
+        -134_217_728
+    );
+    assert!(rt; first.field(b"k").is_none() && first.text().is_none() && first.bytes().is_none());
+    assert!(rt; first.integers().is_none() && first.items().is_none() && first.entries().is_none());
+    assert!(rt; table.index().is_none() && table.signed().is_none());
     Ok(())
-}
-
-#[test]
-fn tells_integers(rt: HostRuntime) {
-    let cases = [
-        (0x1fff_ffff, 0x0fff_ffff, -1),
-        (0x07ff_ffff, 134_217_727, 134_217_727),
-        (0x0800_0000, 134_217_728, -134_217_728),
-    ];
-    for (v, index, signed) in cases {
-        let integer = Resource::Integer(v);
-        assert!(rt; integer.index() == Some(index) && integer.signed() == Some(signed));
-        assert!(rt;
-            integer.field(b"k").is_none()
-                && integer.text().is_none()
-                && integer.integers().is_none()
-        );
-    }
 }

@@ -1,7 +1,7 @@
 -- The answer in a zone, from what the zone and the phrase say.
 use Rattle.std.proofs.Common.{◌≡◌, inl, inr, ℕ, ℤ, ◌-ℤ◌, List, [], ◌∷◌, ◌++◌, append_assoc, Bool, true, false, Option, Some, None, IfSome, IsTrue, ◌↔◌, codes, refl, sym, ap, ◌∙◌, subst}
 use Rattle.zoneinfo64.specs.Zone.{PlainZone}
-use Rattle.zoneinfo64.specs.Laws.{IsFixed, IsLawful}
+use Rattle.zoneinfo64.specs.Laws.{IsFixed}
 use Rattle.zoneinfo64.specs.Placement.{IsPlaced}
 use Rattle.zoneinfo64.specs.Timeline.{offset_at}
 use Rattle.zoneinfo64.specs.declared.offset.Offset.{Offset}
@@ -10,10 +10,10 @@ use Rattle.tell.specs.PlainForm.{IsPlainForm}
 use Rattle.tell.specs.Answer.{IsBase, IsUnbuilt, IsMoment, IsDistance, IsAnswerIn, moment_line}
 use Rattle.tell.specs.Whole.{Adds}
 
--- a lawful zone without transitions gives a moment
+-- a fixed zone gives a moment
 pub moment_there : (zone : Option PlainZone) (f : LineFields) (wall second offset : ℤ) (fixed : Bool) (at_wall at_second : Offset) → fixed ≡ true → IsBase f.base → IsPlainForm f.phrase wall
     → IfSome zone (λ z. IsTrue fixed ↔ IsFixed z) → (IsTrue fixed → IfSome zone (λ z. (w t : ℤ) → IsPlaced z w (w -ℤ (offset_at z t).offset)))
-    → IfSome zone (λ z. IsLawful z → at_wall ≡ offset_at z wall) → IfSome zone (λ z. IsLawful z → at_second ≡ offset_at z second)
+    → IfSome zone (λ z. IsFixed z → at_wall ≡ offset_at z wall) → IfSome zone (λ z. IsFixed z → at_second ≡ offset_at z second)
     → second ≡ wall -ℤ at_wall.offset → offset ≡ at_second.offset
     → IfSome zone (λ z. IsMoment z f second offset)
 moment_there None f wall second offset fixed at_wall at_second true_is base form is placed here there e g = tt
@@ -24,8 +24,8 @@ moment_there (Some z) f wall second offset fixed at_wall at_second true_is base 
         fixed = fixed_zone;
         base = base;
         form = form;
-        placed = subst (λ (s : ℤ). IsPlaced z wall s) (sym (e ∙ ap (λ (o : Offset). wall -ℤ o.offset) (here fixed_zone.lawful))) (placed true_is wall wall);
-        offset_there = g ∙ ap (λ (o : Offset). o.offset) (there fixed_zone.lawful);
+        placed = subst (λ (s : ℤ). IsPlaced z wall s) (sym (e ∙ ap (λ (o : Offset). wall -ℤ o.offset) (here fixed_zone))) (placed true_is wall wall);
+        offset_there = g ∙ ap (λ (o : Offset). o.offset) (there fixed_zone);
       },
     )
 

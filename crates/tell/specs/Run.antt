@@ -3,7 +3,7 @@ use Rattle.std.specs.Prelude.{◌≡◌, ℕ, ◌+◌, ◌*◌, ◌==◌, ◌%�
 use Rattle.std.specs.Str.{bytes_eq}
 use Rattle.std.specs.Io.KnownBytes.{Appends, IsAtEnd}
 use Rattle.zoneinfo64.specs.NamedZone.{NamedZone}
-use Rattle.zoneinfo64.specs.Simple.{zones_of_words}
+use Rattle.zoneinfo64.specs.Bundle.{zones_of_words}
 use Rattle.tell.specs.Lines.{lines}
 use Rattle.tell.specs.Answer.{IsReport}
 use Rattle.tell.specs.declared.program.Status.{Status}

@@ -1,5 +1,5 @@
 ghost use Rattle.std.specs.Prelude.{◌≡◌, ◌+◌, ◌*◌, ◌/◌, ◌<◌, ◌≤◌, ◌^◌, ◌==◌, ◌%◌, ℕ, List, length, Some, None, IfOk, IsErrOf, vec_len, nat_lt};
-ghost use Rattle.zoneinfo64.specs.Simple.{zones_of_words};
+ghost use Rattle.zoneinfo64.specs.Bundle.{zones_of_words};
 ghost use Rattle.tell.specs.Run.{words_of, bundle_zones};
 
 use std::alloc::{AllocError, Global};
@@ -25,7 +25,7 @@ fn words(alloc: Global, bytes: &[u8]) -> Result<Vec<u32>, AllocError>
     Ok(words)
 }
 
-#[tactic(auto, unfolding(crate::specs::Run::bundle_zones, zoneinfo64::specs::Simple::zones_of_words))]
+#[tactic(auto, unfolding(crate::specs::Run::bundle_zones, zoneinfo64::specs::Bundle::zones_of_words))]
 /// The zones of a bundle of at most 4,194,304 bytes.
 pub fn zones_of_bytes(alloc: Global, bytes: &[u8]) -> Result<ZoneInfo64, Refusal>
     requires { length bytes.now ≤ 4194304 }

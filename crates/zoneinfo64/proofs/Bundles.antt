@@ -1,16 +1,21 @@
--- A simple bundle is read step by step.
-use Rattle.std.proofs.Common.{◌≡◌, ℕ, Bool, true, false, cond, ◌&&◌, List, [], ◌∷◌, Option, Some, None, ℤ, ◌+ℤ◌, refl, sym, ◌∙◌, is_none, codes, inl, inr}
-use Rattle.std.proofs.lemmas.Bool.{and_parts, and_cases}
+-- A bundle is read step by step.
+use Rattle.std.proofs.Common.{◌≡◌, ℕ, suc, nat_le, ◌<◌, ◌≤◌, eqb, Bool, true, false, cond, ◌&&◌, List, [], ◌∷◌, length, Option, Some, None, IsSome, Err, ℤ, ◌+ℤ◌, refl, sym, ap, ◌∙◌, codes, arith}
+use Rattle.std.proofs.lemmas.Bool.{and_parts, eq-eqb, leb-true, ltb-true}
 use Rattle.resb.specs.Tree.{◌>>=◌, when}
-use Rattle.resb.specs.Fields.{field_in, field_layer, entries_in, entries_layer, index_layer}
+use Rattle.resb.specs.Header.{tree_of}
+use Rattle.resb.specs.Fields.{field_layer, entries_in, entries_layer, index_in}
 use Rattle.resb.specs.declared.resource.Resource.{Resource, out-Resource}
 use Rattle.resb.specs.declared.resource.Resource.TheOpen.{Resource-F}
-use Rattle.zoneinfo64.specs.Zone.{RawRule, PlainZone}
-use Rattle.zoneinfo64.specs.NamedZone.{IsZone}
-use Rattle.zoneinfo64.specs.Bundle.{as_i32, fits_i32, pairs_of, sums_fit, offset_pairs, final_rule, plain_zone_of, place_of, named_zone, named_zones}
-use Rattle.zoneinfo64.specs.Simple.{is_simple_zone, all_simple}
+use Rattle.zoneinfo64.specs.declared.error.BinaryDeserializerError.{BinaryDeserializerError}
+use Rattle.zoneinfo64.specs.declared.error.BinaryDeserializerError.TheVariants as errors
+use Rattle.zoneinfo64.specs.Zone.{RawRule}
+use Rattle.zoneinfo64.specs.NamedZone.{NamedZone}
+use Rattle.zoneinfo64.specs.Bundle.{rules_of, as_i32, fits_i32, pairs_of, sums_fit, offset_pairs, rule_named, final_rule, plain_zone_of, place_of, named_zone, named_zones, rises, all_resolved, zone_list, zones_of_words}
 use Rattle.zoneinfo64.proofs.Regions.{region_is}
-use Rattle.zoneinfo64.specs.Steps.{pair_of, offset_steps, type_offsets, links_of, lacks_transitions, simple_zone, simple_named, simple_zones}
+use Rattle.zoneinfo64.specs.Steps.{Reads, pair_of, offset_steps, type_offsets, integers_at, bytes_at, wide_at, used_rule, rule_fields, zone_rule, zone_steps, place_by, place_steps, named_steps, list_steps, are_arrays, array_in, table_in, checked_steps, root_steps}
+
+abbrev Find : Type 0
+Find = List ℕ → Option RawRule
 
 -- ---- steps in a row
 
@@ -42,7 +47,59 @@ pairs_are (a ∷ b ∷ words) = by (pairs_of words) refl (pairs_are words)
         let rest : offset_steps words ≡ when (sums_fit ps) ps = sym others ∙ (rw e refl) in
         rw (e, rest) (step (fits_i32 (as_i32 a +ℤ as_i32 b)) (sums_fit ps) (as_i32 a, as_i32 b) ps)
 
+-- ---- rules
+
+abbrev found : List (List ℕ × RawRule) → Find
+found rules text = rule_named text rules
+
+when_some : {A : Type 0} (b : Bool) (x : A) → when b (Some x) ≡ (when b x >>= λ y. Some (Some y))
+when_some true x = refl
+when_some false x = refl
+
+used_is : (rules : List (List ℕ × RawRule)) (key raw year : Resource)
+    → final_rule rules (Some key) (Some raw) (Some year) ≡ (used_rule (found rules) key raw year >>= λ rule. Some (Some rule))
+unfolding final_rule used_rule
+used_is rules key raw year = simp (in_a_row, when_some)
+
+final_is : (rules : List (List ℕ × RawRule)) (key raw year : Option Resource) → final_rule rules key raw year ≡ rule_fields (found rules) key raw year
+unfolding final_rule
+final_is rules None None None = refl
+final_is rules None None (Some c) = refl
+final_is rules None (Some b) None = refl
+final_is rules None (Some b) (Some c) = refl
+final_is rules (Some a) None None = refl
+final_is rules (Some a) None (Some c) = refl
+final_is rules (Some a) (Some b) None = refl
+final_is rules (Some a) (Some b) (Some c) = used_is rules a b c
+
+-- the same for two finders that find the same
+used_same : (f g : Find) → ((text : List ℕ) → f text ≡ g text) → (key raw year : Resource) → used_rule f key raw year ≡ used_rule g key raw year
+unfolding used_rule
+used_same f g same key raw year = simp same
+
+fields_same : (f g : Find) → ((text : List ℕ) → f text ≡ g text) → (key raw year : Option Resource) → rule_fields f key raw year ≡ rule_fields g key raw year
+fields_same f g same None None None = refl
+fields_same f g same None None (Some c) = refl
+fields_same f g same None (Some b) None = refl
+fields_same f g same None (Some b) (Some c) = refl
+fields_same f g same (Some a) None None = refl
+fields_same f g same (Some a) None (Some c) = refl
+fields_same f g same (Some a) (Some b) None = refl
+fields_same f g same (Some a) (Some b) (Some c) = rw (used_same f g same a b c) refl
+
+rule_same : (f g : Find) → ((text : List ℕ) → f text ≡ g text) → (zone : Resource) → zone_rule f zone ≡ zone_rule g zone
+unfolding zone_rule
+rule_same f g same zone = fields_same f g same _ _ _
+
 -- ---- a zone
+
+zone_is : (rules : List (List ℕ × RawRule)) (zone : Resource) → plain_zone_of rules zone ≡ zone_steps (found rules) zone
+unfolding plain_zone_of zone_steps zone_rule type_offsets integers_at bytes_at wide_at
+zone_is rules zone = simp (in_a_row, pairs_are, final_is)
+
+zone_same : (f g : Find) → ((text : List ℕ) → f text ≡ g text) → (zone : Resource) → zone_steps f zone ≡ zone_steps g zone
+unfolding zone_steps
+zone_same f g same zone = simp (rule_same f g same zone)
 
 no_field : (key : List ℕ) (layer : Resource-F Resource) → entries_layer layer ≡ None → field_layer key layer ≡ None
 no_field key (Resource-F.Text v) e = refl
@@ -52,117 +109,153 @@ no_field key (Resource-F.Integer v) e = refl
 no_field key (Resource-F.Array v) e = refl
 no_field key (Resource-F.Integers v) e = refl
 
-no_index : (layer : Resource-F Resource) (entries : List (List ℕ × Resource)) → entries_layer layer ≡ Some entries → index_layer layer ≡ None
-no_index (Resource-F.Text v) entries e = refl
-no_index (Resource-F.Bytes v) entries e = refl
-no_index (Resource-F.Table v) entries e = refl
-no_index (Resource-F.Integer v) entries e = cc
-no_index (Resource-F.Array v) entries e = refl
-no_index (Resource-F.Integers v) entries e = refl
+no_table : (find : Find) (zone : Resource) → entries_in zone ≡ None → zone_steps find zone ≡ None
+unfolding zone_steps type_offsets
+no_table find zone e = rw (no_field (codes "typeOffsets") (out-Resource zone) e) refl
 
-a_table : (zone : Resource) (entries : List (List ℕ × Resource)) → entries_in zone ≡ Some entries → is_simple_zone zone ≡ lacks_transitions zone
-unfolding lacks_transitions
-a_table zone entries e = rw e refl
-
-no_table : (zone : Resource) → entries_in zone ≡ None → is_simple_zone zone ≡ false
-no_table zone e = rw e refl
-
-missing : (o : Option Resource) → is_none o ≡ true → o ≡ None
-missing None e = refl
-missing (Some x) e = cc
-
--- the fields that a simple zone lacks
-record Lacks (zone : Resource) : Type 0 where
-  early : field_in (codes "transPre32") zone ≡ None
-  middle : field_in (codes "trans") zone ≡ None
-  late : field_in (codes "transPost32") zone ≡ None
-  types : field_in (codes "typeMap") zone ≡ None
-  rule : field_in (codes "finalRule") zone ≡ None
-  raw : field_in (codes "finalRaw") zone ≡ None
-  year : field_in (codes "finalYear") zone ≡ None
-
-all_lack : (zone : Resource) → lacks_transitions zone ≡ true → Lacks zone
-unfolding lacks_transitions
-all_lack zone lacks =
-    let a = and_parts _ _ lacks in
-    let b = and_parts _ _ a.0 in
-    let d = and_parts _ _ b.0 in
-    let e = and_parts _ _ d.0 in
-    let f = and_parts _ _ e.0 in
-    let g = and_parts _ _ f.0 in
-    record {
-      early = missing _ g.0;
-      middle = missing _ g.1;
-      late = missing _ f.1;
-      types = missing _ e.1;
-      rule = missing _ d.1;
-      raw = missing _ b.1;
-      year = missing _ a.1;
-    }
-
--- a simple zone is read by the steps
-zone_is : (all : List (List ℕ × RawRule)) (zone : Resource) → lacks_transitions zone ≡ true → plain_zone_of all zone ≡ simple_zone zone
-unfolding plain_zone_of final_rule simple_zone type_offsets links_of
-zone_is all zone lacks =
-    let no = all_lack zone lacks in
-    rw (lacks, no.early, no.middle, no.late, no.types, no.rule, no.raw, no.year) (simp (in_a_row, pairs_are))
-
-place_is : (all : List (List ℕ × RawRule)) (zone : Resource) (entries : List (List ℕ × Resource)) → entries_in zone ≡ Some entries → lacks_transitions zone ≡ true
-    → place_of all zone ≡ (simple_zone zone >>= λ z. Some (IsZone z))
-place_is all zone entries e lacks = rw (no_index (out-Resource zone) entries e, e, zone_is all zone lacks) refl
-
--- a zone that is simple, and one that is not
-
-simple_place : (all : List (List ℕ × RawRule)) (zone : Resource) → is_simple_zone zone ≡ true → place_of all zone ≡ (simple_zone zone >>= λ z. Some (IsZone z))
-simple_place all zone simple = by (entries_in zone) refl
+place_is : (rules : List (List ℕ × RawRule)) (zone : Resource) → place_of rules zone ≡ place_steps (found rules) zone
+unfolding place_steps
+place_is rules zone = by (index_in zone) (entries_in zone) refl refl
   where
-    by : (o : Option (List (List ℕ × Resource))) → entries_in zone ≡ o → place_of all zone ≡ (simple_zone zone >>= λ z. Some (IsZone z))
-    by None e = let not_so = no_table zone e in cc
-    by (Some entries) e = place_is all zone entries e (sym (a_table zone entries e) ∙ simple)
+    by : (o : Option ℕ) (entries : Option (List (List ℕ × Resource))) → index_in zone ≡ o → entries_in zone ≡ entries → place_of rules zone ≡ place_by (index_in zone) (found rules) zone
+    by (Some n) entries e f = rw e refl
+    by None (Some entries) e f = rw (e, f, zone_is rules zone) refl
+    by None None e f = rw (e, f, no_table (found rules) zone f) refl
 
-lacks_types : (zone : Resource) → entries_in zone ≡ None → type_offsets zone ≡ None
-unfolding type_offsets
-lacks_types zone e = rw (no_field (codes "typeOffsets") (out-Resource zone) e) refl
-
-not_simple : (zone : Resource) → is_simple_zone zone ≡ false → simple_zone zone ≡ None
-unfolding simple_zone
-not_simple zone simple = by (entries_in zone) refl
+place_same : (f g : Find) → ((text : List ℕ) → f text ≡ g text) → (zone : Resource) → place_steps f zone ≡ place_steps g zone
+unfolding place_steps
+place_same f g same zone = by (index_in zone)
   where
-    by : (o : Option (List (List ℕ × Resource))) → entries_in zone ≡ o → simple_zone zone ≡ None
-    by None e = rw (lacks_types zone e) (same (lacks_transitions zone))
-      where
-        same : (b : Bool) → let none : Option PlainZone = None in cond b none none ≡ none
-        same true = refl
-        same false = refl
-    by (Some entries) e = let lacks : lacks_transitions zone ≡ false = sym (a_table zone entries e) ∙ simple in rw lacks refl
+    by : (o : Option ℕ) → place_by o f zone ≡ place_by o g zone
+    by (Some n) = refl
+    by None = rw (zone_same f g same zone) refl
 
 -- ---- zones with names
 
-named_is : (all : List (List ℕ × RawRule)) (zone name region : Resource) → is_simple_zone zone ≡ true → named_zone all zone name region ≡ simple_named zone name region
-unfolding named_zone simple_named
-named_is all zone name region simple = simp (simple_place all zone simple, region_is, in_a_row)
+named_is : (rules : List (List ℕ × RawRule)) (zone name region : Resource) → named_zone rules zone name region ≡ named_steps (found rules) zone name region
+unfolding named_zone named_steps
+named_is rules zone name region = simp (place_is rules zone, region_is)
 
-no_named : (zone name region : Resource) → is_simple_zone zone ≡ false → simple_named zone name region ≡ None
-unfolding simple_named
-no_named zone name region simple = simp (not_simple zone simple, none_after)
+named_same : (f g : Find) → ((text : List ℕ) → f text ≡ g text) → (zone name region : Resource) → named_steps f zone name region ≡ named_steps g zone name region
+unfolding named_steps
+named_same f g same zone name region = simp (place_same f g same zone)
 
-pub zones_are : (all : List (List ℕ × RawRule)) (zones names regions : List Resource) → all_simple zones ≡ true → named_zones all zones names regions ≡ simple_zones zones names regions
-zones_are all [] [] [] simple = refl
-zones_are all [] [] (r ∷ regions) simple = refl
-zones_are all [] (n ∷ names) regions simple = refl
-zones_are all (z ∷ zones) [] regions simple = refl
-zones_are all (z ∷ zones) (n ∷ names) [] simple = refl
-zones_are all (z ∷ zones) (n ∷ names) (r ∷ regions) simple =
-    let parts = and_parts (is_simple_zone z) (all_simple zones) simple in
-    rw (named_is all z n r parts.0, zones_are all zones names regions parts.1) refl
+zones_are : (rules : List (List ℕ × RawRule)) (zones names regions : List Resource) → named_zones rules zones names regions ≡ list_steps (found rules) zones names regions
+zones_are rules [] [] [] = refl
+zones_are rules [] [] (r ∷ regions) = refl
+zones_are rules [] (n ∷ names) regions = refl
+zones_are rules (z ∷ zones) [] regions = refl
+zones_are rules (z ∷ zones) (n ∷ names) [] = refl
+zones_are rules (z ∷ zones) (n ∷ names) (r ∷ regions) = rw (named_is rules z n r, zones_are rules zones names regions) refl
 
-pub no_zones : (zones names regions : List Resource) → all_simple zones ≡ false → simple_zones zones names regions ≡ None
-no_zones [] [] [] simple = cc
-no_zones [] [] (r ∷ regions) simple = refl
-no_zones [] (n ∷ names) regions simple = refl
-no_zones (z ∷ zones) [] regions simple = refl
-no_zones (z ∷ zones) (n ∷ names) [] simple = refl
-no_zones (z ∷ zones) (n ∷ names) (r ∷ regions) simple = elim (and_cases (is_simple_zone z) (all_simple zones) simple) [
-  | inl h ↦ rw (no_named z n r h) refl
-  | inr h ↦ rw (no_zones zones names regions h) (none_after (simple_named z n r))
-]
+list_same : (f g : Find) → ((text : List ℕ) → f text ≡ g text) → (zones names regions : List Resource) → list_steps f zones names regions ≡ list_steps g zones names regions
+list_same f g same [] [] [] = refl
+list_same f g same [] [] (r ∷ regions) = refl
+list_same f g same [] (n ∷ names) regions = refl
+list_same f g same (z ∷ zones) [] regions = refl
+list_same f g same (z ∷ zones) (n ∷ names) [] = refl
+list_same f g same (z ∷ zones) (n ∷ names) (r ∷ regions) = rw (named_same f g same z n r, list_same f g same zones names regions) refl
+
+-- ---- the list
+
+some_same : {A : Type 0} (x y : A) → Some x ≡ Some y → x ≡ y
+some_same x y e = cc
+
+-- the parts of a list that has a first zone
+parts : (first : Option NamedZone) (more : Option (List NamedZone)) (list : List NamedZone) → (first >>= λ x. more >>= λ xs. Some (x ∷ xs)) ≡ Some list
+    → (x : NamedZone) × (xs : List NamedZone) × (first ≡ Some x) × (more ≡ Some xs) × (x ∷ xs ≡ list)
+parts None more list e = cc
+parts (Some x) None list e = cc
+parts (Some x) (Some xs) list e = (x, xs, refl, refl, some_same (x ∷ xs) list e)
+
+-- a list that is read is as long as the three arrays
+pub record AreLong (list : List NamedZone) (zones names regions : List Resource) : Type 0 where
+  pub as_zones : length list ≡ length zones
+  pub as_names : length list ≡ length names
+  pub as_regions : length list ≡ length regions
+
+pub lengths : (find : Find) (zones names regions : List Resource) (list : List NamedZone) → list_steps find zones names regions ≡ Some list → AreLong list zones names regions
+lengths find [] [] [] list e = let same : [] ≡ list = some_same [] list e in rw (← same) (record { as_zones = refl; as_names = refl; as_regions = refl })
+lengths find [] [] (r ∷ regions) list e = cc
+lengths find [] (n ∷ names) regions list e = cc
+lengths find (z ∷ zones) [] regions list e = cc
+lengths find (z ∷ zones) (n ∷ names) [] list e = cc
+lengths find (z ∷ zones) (n ∷ names) (r ∷ regions) list e =
+    let found = parts (named_steps find z n r) (list_steps find zones names regions) list e in
+    let others = lengths find zones names regions found.1 found.3 in
+    rw (← found.4) (record { as_zones = ap suc others.as_zones; as_names = ap suc others.as_names; as_regions = ap suc others.as_regions })
+
+-- what is asked of a list
+abbrev checked : List NamedZone → Option (List NamedZone)
+checked list = when (nat_le 1 (length list) && nat_le (length list) 65536 && rises list && all_resolved list list) list
+
+abbrev fine : List NamedZone → Option (List NamedZone)
+fine list = when (rises list && all_resolved list list) list
+
+choice : (p q r s : Bool) (list : List NamedZone) → when (p && q && r && s) list ≡ cond (p && q && true && true) (when (r && s) list) None
+choice true true r s list = refl
+choice true false r s list = refl
+choice false q r s list = refl
+
+none_either : (b : Bool) → let none : Option (List NamedZone) = None in cond b none none ≡ none
+none_either true = refl
+none_either false = refl
+
+-- the steps ask it of the arrays
+asked : (find : Find) (zones names regions : List Resource) (list : List NamedZone) → list_steps find zones names regions ≡ Some list
+    → checked list ≡ cond (are_arrays zones names regions) (fine list) None
+asked find zones names regions list e =
+    let long = lengths find zones names regions list e in
+    let same_names : eqb (length names) (length zones) ≡ true = eq-eqb _ _ (omega (arith, long.as_zones, long.as_names)) in
+    let same_regions : eqb (length regions) (length zones) ≡ true = eq-eqb _ _ (omega (arith, long.as_zones, long.as_regions)) in
+    rw (long.as_zones, same_names, same_regions) (choice (nat_le 1 (length zones)) (nat_le (length zones) 65536) (rises list) (all_resolved list list) list)
+
+from_arrays : (rules : List (List ℕ × RawRule)) (zones names regions : List Resource)
+    → (named_zones rules zones names regions >>= checked) ≡ checked_steps (found rules) zones names regions
+unfolding checked_steps
+from_arrays rules zones names regions = rw (zones_are rules zones names regions) (by (list_steps (found rules) zones names regions) refl)
+  where
+    by : (o : Option (List NamedZone)) → list_steps (found rules) zones names regions ≡ o
+        → (list_steps (found rules) zones names regions >>= checked) ≡ cond (are_arrays zones names regions) (list_steps (found rules) zones names regions >>= fine) None
+    by None e = rw e (sym (none_either (are_arrays zones names regions)))
+    by (Some list) e = rw e (asked (found rules) zones names regions list e)
+
+checked_same : (f g : Find) → ((text : List ℕ) → f text ≡ g text) → (zones names regions : List Resource) → checked_steps f zones names regions ≡ checked_steps g zones names regions
+unfolding checked_steps
+checked_same f g same zones names regions = rw (list_same f g same zones names regions) refl
+
+-- the list of a tree is read by the steps
+pub list_is : (root : Resource) → zone_list root ≡ root_steps root
+unfolding zone_list root_steps array_in table_in
+list_is root = simp (in_a_row, from_arrays)
+
+-- so is that of words
+pub words_are : (words : List ℕ) (root : Resource) → tree_of words ≡ Some root → zones_of_words words ≡ root_steps root
+unfolding zones_of_words
+words_are words root e = rw e (list_is root)
+
+-- with the rules in a map
+pub root_with : (finds : Find) (root : Resource) (zones names regions : List Resource) (entries : List (List ℕ × Resource)) (rules : List (List ℕ × RawRule))
+    → array_in (codes "Zones") root ≡ Some zones → array_in (codes "Names") root ≡ Some names → array_in (codes "Regions") root ≡ Some regions
+    → table_in (codes "Rules") root ≡ Some entries → rules_of entries ≡ Some rules → ((text : List ℕ) → finds text ≡ rule_named text rules)
+    → root_steps root ≡ checked_steps finds zones names regions
+unfolding root_steps
+root_with finds root zones names regions entries rules z n r e all same =
+    rw (z, n, r, e, all) (sym (checked_same finds (found rules) same zones names regions))
+
+-- a list that is read has zones, and not too many
+pub list_is_few : (find : Find) (zones names regions : List Resource) (list : List NamedZone) → are_arrays zones names regions ≡ true → list_steps find zones names regions ≡ Some list
+    → (0 < length list) × (length list ≤ 65536)
+list_is_few find zones names regions list arrays e =
+    let long = lengths find zones names regions list e in
+    let sizes = and_parts _ _ (and_parts _ _ (and_parts _ _ arrays).0).0 in
+    let some : 0 < length zones = ltb-true 0 (length zones) sizes.0 in
+    let few : length zones ≤ 65536 = leb-true (length zones) 65536 sizes.1 in
+    rw long.as_zones (some, few)
+
+-- a refusal for a broken rule says that there is no list
+pub no_list : {X : Type 0} (view : X → List NamedZone) (e : BinaryDeserializerError) (words : List ℕ) (root : Resource) → tree_of words ≡ Some root → Reads view (Err e) (root_steps root)
+    → e ≡ errors.Rules → IsSome (tree_of words) × (zones_of_words words ≡ None)
+no_list view e words root tree read is =
+    let none : root_steps root ≡ None = rw is at read in
+    (rw tree refl, words_are words root tree ∙ none)

@@ -1,6 +1,6 @@
 -- Where a text stands among entries whose names rise: those before a smaller one are smaller, those after a greater one
 -- are greater, and the place found so is that of the zone of this name.
-use Rattle.std.proofs.Common.{◌≡◌, ℕ, zero, suc, ◌+◌, ◌<◌, ◌≤◌, Bool, true, false, IsTrue, List, [], ◌∷◌, length, All, Some, None, is_some, position, refl, sym, ap, ◌∙◌, subst, inl, inr, ◌⊎◌, arith}
+use Rattle.std.proofs.Common.{◌≡◌, ℕ, zero, suc, ◌+◌, ◌<◌, ◌≤◌, Bool, true, false, IsTrue, List, [], ◌∷◌, length, All, Option, Some, None, is_some, position, refl, sym, ap, ◌∙◌, subst, inl, inr, ◌⊎◌, arith}
 use Rattle.std.proofs.lemmas.Bool.Decides.{nat_tests}
 use Rattle.std.proofs.lemmas.Cmp.{alike_right}
 use Rattle.std.proofs.lemmas.Option.{slice_get_within}
@@ -14,9 +14,10 @@ use Rattle.std.specs.Str.{bytes_eq}
 use Rattle.std.specs.String.{string_bytes}
 use Rattle.std.proofs.lemmas.List.Elements.{All-head, All-tail}
 use Rattle.zoneinfo64.specs.declared.zone.Named.{Named}
-use Rattle.zoneinfo64.specs.Bundle.{rises}
-use Rattle.zoneinfo64.specs.NamedZone.{NamedZone, name_text, zone_at, resolved_in, named}
-use Rattle.zoneinfo64.specs.ZoneList.{AreEntries, HasText, zones_of}
+use Rattle.zoneinfo64.specs.Zone.{PlainZone}
+use Rattle.zoneinfo64.specs.Bundle.{rises, is_resolved, all_resolved}
+use Rattle.zoneinfo64.specs.NamedZone.{NamedZone, Place, IsZone, IsAlias, name_text, resolved, resolved_in, entry_named, named}
+use Rattle.zoneinfo64.specs.ZoneList.{AreEntries, HasText, named_of, zones_of}
 
 abbrev pub text : Named → List ℕ
 text e = string_bytes e.text
@@ -34,15 +35,15 @@ head_below : (a : Named) (es : List Named) → All HasText (a ∷ es) → IsTrue
     → (j : ℕ) (b : Named) → slice_get es j ≡ Some b → order (text a) (text b) ≡ Less
 head_below a [] texts rising j b at = cc
 head_below a (c ∷ es) texts rising zero b at =
-    let here : order (name_text a.name.items) (name_text c.name.items) ≡ Less = is_less _ (first_so _ (rises (zones_of (c ∷ es))) rising) in
-    let ta : text a ≡ name_text a.name.items = All-head HasText a (c ∷ es) texts in
-    let tc : text c ≡ name_text c.name.items = All-head HasText c es (All-tail HasText a (c ∷ es) texts) in
+    let here : order (name_text a.name) (name_text c.name) ≡ Less = is_less _ (first_so _ (rises (zones_of (c ∷ es))) rising) in
+    let ta : text a ≡ name_text a.name = All-head HasText a (c ∷ es) texts in
+    let tc : text c ≡ name_text c.name = All-head HasText c es (All-tail HasText a (c ∷ es) texts) in
     let same : c ≡ b = cc in
     subst (λ (e : Named). order (text a) (text e) ≡ Less) same (rw (ta, tc) here)
 head_below a (c ∷ es) texts rising (suc j) b at =
-    let here : order (name_text a.name.items) (name_text c.name.items) ≡ Less = is_less _ (first_so _ (rises (zones_of (c ∷ es))) rising) in
-    let ta : text a ≡ name_text a.name.items = All-head HasText a (c ∷ es) texts in
-    let tc : text c ≡ name_text c.name.items = All-head HasText c es (All-tail HasText a (c ∷ es) texts) in
+    let here : order (name_text a.name) (name_text c.name) ≡ Less = is_less _ (first_so _ (rises (zones_of (c ∷ es))) rising) in
+    let ta : text a ≡ name_text a.name = All-head HasText a (c ∷ es) texts in
+    let tc : text c ≡ name_text c.name = All-head HasText c es (All-tail HasText a (c ∷ es) texts) in
     let step : order (text a) (text c) ≡ Less = rw (ta, tc) here in
     nat_list_cmp_total.trans (text a) (text c) (text b) step
     (head_below c es (All-tail HasText a (c ∷ es) texts) (second_so _ (rises (zones_of (c ∷ es))) rising) j b at)
@@ -163,49 +164,75 @@ missing-is es t n below above =
 
 -- ---- the zone
 
-zone_at_within : (es : List Named) (n : ℕ) → n < length es → IsTrue (is_some (zone_at (zones_of es) n))
-zone_at_within [] n lt = absurd (omega arith)
-zone_at_within (e ∷ es) zero lt = refl
-zone_at_within (e ∷ es) (suc n) lt = zone_at_within es n (omega arith)
+abbrev pub answer_at : List NamedZone → List Named → ℕ → Option PlainZone
+answer_at zones es n = resolved_in zones (slice_get (zones_of es) n)
 
-zone_at_found : (es : List Named) (t : List ℕ) (n : ℕ) → position (has_text t) es ≡ Some n → IsTrue (is_some (zone_at (zones_of es) n))
-zone_at_found es t n found = zone_at_within es n (grind (arith, nat_tests))
+resolved_is_some : (zones : List NamedZone) (p : Place) → is_resolved zones p ≡ true → IsTrue (is_some (resolved zones p))
+resolved_is_some zones (IsZone z) h = refl
+resolved_is_some zones (IsAlias n) h = h
 
-zone_at_past : (es : List Named) (n : ℕ) → length es ≤ n → zone_at (zones_of es) n ≡ None
-zone_at_past [] n le = refl
-zone_at_past (e ∷ es) zero le = absurd (omega arith)
-zone_at_past (e ∷ es) (suc n) le = zone_at_past es n (omega arith)
+answer_within : (zones : List NamedZone) (es : List Named) (n : ℕ) → IsTrue (all_resolved zones (zones_of es)) → n < length es → IsTrue (is_some (answer_at zones es n))
+answer_within zones [] n all lt = absurd (omega arith)
+answer_within zones (e ∷ es) zero all lt = resolved_is_some zones (named_of e).place (first_so _ (all_resolved zones (zones_of es)) all)
+answer_within zones (e ∷ es) (suc n) all lt = answer_within zones es n (second_so _ (all_resolved zones (zones_of es)) all) (omega arith)
+
+answer_found : (es : List Named) (t : List ℕ) (n : ℕ) → IsTrue (all_resolved (zones_of es) (zones_of es)) → position (has_text t) es ≡ Some n
+    → IsTrue (is_some (answer_at (zones_of es) es n))
+answer_found es t n all found = answer_within (zones_of es) es n all (grind (arith, nat_tests))
+
+answer_past : (zones : List NamedZone) (es : List Named) (n : ℕ) → length es ≤ n → answer_at zones es n ≡ None
+answer_past zones [] n le = refl
+answer_past zones (e ∷ es) zero le = absurd (omega arith)
+answer_past zones (e ∷ es) (suc n) le = answer_past zones es n (omega arith)
 
 one_add : (n : ℕ) → 1 + n ≡ suc n
 one_add n = omega arith
 
-find_from : (zones : List NamedZone) (e : Named) (es : List Named) (t : List ℕ) (b : Bool)
-    → bytes_eq (name_text e.name.items) t ≡ b → has_text t e ≡ b
-    → resolved_in zones (find (has_name t) (zones_of es)) ≡ zone_at (zones_of es) (position_or_len (has_text t) es)
-    → resolved_in zones (find (has_name t) (zones_of (e ∷ es))) ≡ zone_at (zones_of (e ∷ es)) (position_or_len (has_text t) (e ∷ es))
-find_from zones e es t true name here rest = rw (name, here)
-find_from zones e es t false name here rest = rw (name, here, one_add) rest
+find_from : (e : Named) (es : List Named) (t : List ℕ) (b : Bool)
+    → bytes_eq (name_text e.name) t ≡ b → has_text t e ≡ b
+    → find (has_name t) (zones_of es) ≡ slice_get (zones_of es) (position_or_len (has_text t) es)
+    → find (has_name t) (zones_of (e ∷ es)) ≡ slice_get (zones_of (e ∷ es)) (position_or_len (has_text t) (e ∷ es))
+find_from e es t true name here rest = rw (name, here)
+find_from e es t false name here rest = rw (name, here, one_add) rest
+
+find_entry : (es : List Named) (t : List ℕ) → All HasText es
+    → find (has_name t) (zones_of es) ≡ slice_get (zones_of es) (position_or_len (has_text t) es)
+find_entry [] t texts = refl
+find_entry (e ∷ es) t texts =
+    find_from e es t (has_text t e) (ap (λ x. bytes_eq x t) (sym (All-head HasText e es texts))) refl (find_entry es t (All-tail HasText e es texts))
 
 find_place : (zones : List NamedZone) (es : List Named) (t : List ℕ) → All HasText es
-    → resolved_in zones (find (has_name t) (zones_of es)) ≡ zone_at (zones_of es) (position_or_len (has_text t) es)
-find_place zones [] t texts = refl
-find_place zones (e ∷ es) t texts =
-    find_from zones e es t (has_text t e) (ap (λ x. bytes_eq x t) (sym (All-head HasText e es texts))) refl (find_place zones es t (All-tail HasText e es texts))
+    → resolved_in zones (find (has_name t) (zones_of es)) ≡ answer_at zones es (position_or_len (has_text t) es)
+find_place zones es t texts = ap (resolved_in zones) (find_entry es t texts)
+
+found_entry : (es : List Named) (t : List ℕ) (n : ℕ) → All HasText es → position (has_text t) es ≡ Some n
+    → slice_get (zones_of es) n ≡ entry_named (zones_of es) t
+found_entry es t n texts found =
+    let same : position_or_len (has_text t) es ≡ n = grind (arith, nat_tests) in
+    sym (find_entry es t texts ∙ ap (slice_get (zones_of es)) same)
 
 found_named : (es : List Named) (t : List ℕ) (n : ℕ) → All HasText es → position (has_text t) es ≡ Some n
-    → zone_at (zones_of es) n ≡ named (zones_of es) t
+    → answer_at (zones_of es) es n ≡ named (zones_of es) t
 unfolding named
 found_named es t n texts found =
     let same : position_or_len (has_text t) es ≡ n = grind (arith, nat_tests) in
-    sym (find_place (zones_of es) es t texts ∙ ap (zone_at (zones_of es)) same)
+    sym (find_place (zones_of es) es t texts ∙ ap (answer_at (zones_of es) es) same)
 
 -- at the place of the text there is a zone, and it is that of the name
 pub zone-found : (es slice : List Named) (zones : List NamedZone) (t : List ℕ) (n : ℕ) → AreEntries es → slice ≡ es → zones_of es ≡ zones
-    → Some n ≡ position (has_text t) slice → IsTrue (is_some (zone_at zones n)) × (zone_at zones n ≡ named zones t)
+    → Some n ≡ position (has_text t) slice
+    → IsTrue (is_some (resolved_in zones (slice_get zones n))) × (resolved_in zones (slice_get zones n) ≡ named zones t)
 zone-found es slice zones t n are same view found =
     let here : position (has_text t) es ≡ Some n = ap (position (has_text t)) (sym same) ∙ sym found in
-    subst (λ (zs : List NamedZone). IsTrue (is_some (zone_at zs n)) × (zone_at zs n ≡ named zs t)) view
-    (zone_at_found es t n here, found_named es t n are.texts here)
+    subst (λ (zs : List NamedZone). IsTrue (is_some (resolved_in zs (slice_get zs n))) × (resolved_in zs (slice_get zs n) ≡ named zs t)) view
+    (answer_found es t n are.resolved here, found_named es t n are.texts here)
+
+-- and it is what stands under that name
+pub entry-found : (es slice : List Named) (zones : List NamedZone) (t : List ℕ) (n : ℕ) → AreEntries es → slice ≡ es → zones_of es ≡ zones
+    → Some n ≡ position (has_text t) slice → slice_get zones n ≡ entry_named zones t
+entry-found es slice zones t n are same view found =
+    let here : position (has_text t) es ≡ Some n = ap (position (has_text t)) (sym same) ∙ sym found in
+    subst (λ (zs : List NamedZone). slice_get zs n ≡ entry_named zs t) view (found_entry es t n are.texts here)
 
 -- and without a place there is none
 pub zone-missing : (es slice : List Named) (zones : List NamedZone) (t : List ℕ) → AreEntries es → slice ≡ es → zones_of es ≡ zones
@@ -214,4 +241,4 @@ unfolding named
 zone-missing es slice zones t are same view missing =
     let here : position (has_text t) es ≡ None = ap (position (has_text t)) (sym same) ∙ sym missing in
     let past : length es ≤ position_or_len (has_text t) es = grind (arith, nat_tests) in
-    ap (λ (zs : List NamedZone). named zs t) (sym view) ∙ find_place (zones_of es) es t are.texts ∙ zone_at_past es _ past
+    ap (λ (zs : List NamedZone). named zs t) (sym view) ∙ find_place (zones_of es) es t are.texts ∙ answer_past (zones_of es) es _ past

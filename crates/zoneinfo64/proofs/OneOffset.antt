@@ -1,16 +1,15 @@
 -- A zone without entries: its initial offset holds at all seconds.
-use Rattle.std.proofs.Common.{◌≡◌, ℤ, ◌-ℤ◌, refl, ap, inl, arith}
+use Rattle.std.proofs.Common.{◌≡◌, ℤ, ◌-ℤ◌, List, [], ◌∷◌, length, eqb, true, false, is_some, Option, Some, None, refl, ap, inl, arith}
 use Rattle.std.proofs.lemmas.Int.{ints}
+use Rattle.std.proofs.lemmas.Bool.Decides.{nat_tests}
 use Rattle.zoneinfo64.specs.declared.offset.Offset.{Offset}
-use Rattle.zoneinfo64.specs.declared.zone.ZoneData.{ZoneData}
 use Rattle.zoneinfo64.specs.Zone.{PlainZone}
-use Rattle.zoneinfo64.specs.ZoneList.{plain_data}
 use Rattle.zoneinfo64.specs.Timeline.{entry_bound, in_force, offset_at}
 use Rattle.zoneinfo64.specs.Placement.{IsShownOnce, IsPlaced}
 
-pub plain-offset_at : (d : ZoneData) (t : ℤ) → offset_at (plain_data d) t ≡ d.initial
+pub plain-offset_at : (z : PlainZone) → z.table ≡ [] → z.rule ≡ None → (t : ℤ) → offset_at z t ≡ z.initial
 unfolding offset_at in_force entry_bound
-plain-offset_at d t = refl
+plain-offset_at z no_table no_rule t = rw (no_table, no_rule) refl
 
 -- where one offset holds at all seconds, each wall second is shown once
 pub constant-shown : (z : PlainZone) (o : Offset) → ((t : ℤ) → offset_at z t ≡ o) → (w : ℤ) → IsShownOnce z w (w -ℤ o.offset)
@@ -28,3 +27,11 @@ constant-placed z o same w t =
       shows = let e = ap (λ (o : Offset). o.offset) (same (w -ℤ (offset_at z t).offset)) in omega (arith, ints, e, at_t);
       first = λ u shows. let e = ap (λ (o : Offset). o.offset) (same u) in omega (arith, ints, e, at_t, shows);
     })
+
+pub is_empty : {A : Type 0} (xs : List A) → true ≡ eqb (length xs) 0 → xs ≡ []
+is_empty [] h = refl
+is_empty (x ∷ xs) h = let none : length (x ∷ xs) ≡ 0 = grind (arith, nat_tests) in absurd (omega arith)
+
+pub is_none : {A : Type 0} (o : Option A) → false ≡ is_some o → o ≡ None
+is_none None h = refl
+is_none (Some x) h = cc

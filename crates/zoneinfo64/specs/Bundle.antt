@@ -5,6 +5,7 @@ use Rattle.std.specs.Cmp.Lexicographic.{slice_cmp}
 use Rattle.std.specs.Str.{bytes_eq}
 use Rattle.std.specs.Char.Utf16.{utf16_lossy_chars}
 use Rattle.resb.specs.Tree.{◌>>=◌, when}
+use Rattle.resb.specs.Header.{tree_of}
 use Rattle.resb.specs.Fields.{field_in, text_in, bytes_in, integers_in, items_in, entries_in, index_in, signed_in}
 use Rattle.resb.specs.declared.resource.Resource.{Resource}
 use Rattle.zoneinfo64.specs.declared.offset.Offset.{Offset}
@@ -236,3 +237,7 @@ zone_list root = do
   rules ← rules_of rule_entries
   list ← named_zones rules zones names regions
   when (nat_le 1 (length list) && nat_le (length list) 65536 && rises list && all_resolved list list) list
+
+-- the zone list of the words of a bundle
+unfoldable pub zones_of_words : List ℕ → Option (List NamedZone)
+zones_of_words words = tree_of words >>= zone_list

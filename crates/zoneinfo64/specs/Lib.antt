@@ -6,8 +6,10 @@ pub mod Laws
 pub mod Lookups
 pub mod NamedZone
 pub mod Bundle
-pub mod Simple
+pub mod Texts
 pub mod Promises
 pub mod ZoneView
+pub mod RuleView
+pub mod RegionView
 pub mod ZoneList
 pub mod Steps

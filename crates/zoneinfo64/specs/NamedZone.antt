@@ -42,6 +42,10 @@ abbrev pub resolved_in : List NamedZone → Option NamedZone → Option PlainZon
 resolved_in zones None = None
 resolved_in zones (Some e) = resolved zones e.place
 
--- the zone whose name is this text, or none
+-- what stands under the name that is this text, or none
+abbrev pub entry_named : List NamedZone → List ℕ → Option NamedZone
+entry_named zones text = find (λ (e : NamedZone). bytes_eq (name_text e.name) text) zones
+
+-- the zone of that name, an alias replaced by the zone at its place, or none
 unfoldable pub named : List NamedZone → List ℕ → Option PlainZone
-named zones text = resolved_in zones (find (λ (e : NamedZone). bytes_eq (name_text e.name) text) zones)
+named zones text = resolved_in zones (entry_named zones text)

@@ -1,16 +1,22 @@
--- How a simple bundle is read, step by step.
-use Rattle.std.specs.Prelude.{ℕ, ◌==◌, nat_le, nat_lt, Bool, ◌&&◌, if◌then◌else◌, List, [], ◌∷◌, length, Option, Some, None, is_none, Result, Ok, Err, ℤ, ◌+ℤ◌, codes, ◌≡◌}
+-- How a bundle is read, step by step.
+use Rattle.std.specs.Prelude.{ℕ, ◌==◌, nat_le, nat_lt, Bool, ◌&&◌, if◌then◌else◌, List, [], ◌∷◌, ◌++◌, length, map, slice_get, Option, Some, None, Result, Ok, Err, ℤ, pos, ◌+ℤ◌, ◌*ℤ◌, int_lt, codes, ◌≡◌}
 use Rattle.std.specs.Ordering.{nat_cmp, is_lt}
 use Rattle.std.specs.Cmp.Lexicographic.{slice_cmp}
+use Rattle.std.specs.Prelude.{Vec}
+use Rattle.std.specs.declared.alloc.Global.{Global}
+use Rattle.std.specs.BTreeMap.{BTreeMap}
 use Rattle.resb.specs.Tree.{◌>>=◌, when}
-use Rattle.resb.specs.Fields.{field_in, text_in, integers_in, items_in, entries_in}
+use Rattle.resb.specs.Fields.{field_in, text_in, bytes_in, integers_in, items_in, entries_in, index_in, signed_in}
 use Rattle.resb.specs.declared.resource.Resource.{Resource}
 use Rattle.zoneinfo64.specs.declared.error.BinaryDeserializerError.{BinaryDeserializerError}
 use Rattle.zoneinfo64.specs.declared.error.BinaryDeserializerError.TheVariants as errors
-use Rattle.zoneinfo64.specs.Zone.{PlainZone}
-use Rattle.zoneinfo64.specs.NamedZone.{NamedZone, IsZone, name_text}
-use Rattle.zoneinfo64.specs.Bundle.{as_i32, fits_i32, first_of, pair_offset, list_or_empty, region_of_chars, rises}
-use Rattle.zoneinfo64.specs.Simple.{are_no_rules}
+use Rattle.zoneinfo64.specs.declared.offset.Offset.{Offset}
+use Rattle.zoneinfo64.specs.declared.offset.Transition.{Transition}
+use Rattle.zoneinfo64.specs.declared.rule.RuleDates.{RuleDates}
+use Rattle.zoneinfo64.specs.Zone.{RawRule, PlainRule, PlainZone}
+use Rattle.zoneinfo64.specs.NamedZone.{NamedZone, Place, IsZone, IsAlias, name_text}
+use Rattle.zoneinfo64.specs.Bundle.{as_i32, fits_i32, wide_seconds, first_of, pair_offset, list_or_empty, region_of_chars, rises, all_resolved, raw_rule, rules_of, rule_named, plain_rule, table_of}
+use Rattle.zoneinfo64.specs.RuleView.{rule_for}
 
 -- what was read is what there is; or there is none; or memory ran out
 abbrev pub Reads : {X Y : Type 0} → (X → Y) → Result X BinaryDeserializerError → Option Y → Type 0
@@ -19,7 +25,45 @@ Reads view (Err errors.Memory) found = Unit {0}
 Reads view (Err errors.Rules) found = found ≡ None
 Reads view (Err errors.Tree) found = ⊥
 
--- ---- a zone
+-- ---- rules
+
+unfoldable pub rule_in : Resource → Option RawRule
+rule_in value = do
+  words ← integers_in value
+  raw_rule words
+
+-- a map has the same rules as a list
+pub record HasRules (found : BTreeMap (Vec ℕ Global) RuleDates) (rules : Option (List (List ℕ × RawRule))) : Type 0 where
+  pub list : List (List ℕ × RawRule)
+  pub whole : rules ≡ Some list
+  pub each : (text : List ℕ) → rule_for found text ≡ rule_named text list
+
+-- the rules were read into a map; or a rule is broken; or memory ran out
+abbrev pub ReadsRules : Result (BTreeMap (Vec ℕ Global) RuleDates) BinaryDeserializerError → Option (List (List ℕ × RawRule)) → Type 0
+ReadsRules (Ok found) rules = HasRules found rules
+ReadsRules (Err errors.Memory) rules = Unit {0}
+ReadsRules (Err errors.Rules) rules = rules ≡ None
+ReadsRules (Err errors.Tree) rules = ⊥
+
+unfoldable pub used_rule : (List ℕ → Option RawRule) → Resource → Resource → Resource → Option PlainRule
+used_rule find key raw year = do
+  text ← text_in key
+  standard ← signed_in raw
+  first ← signed_in year
+  rule ← find text
+  when (fits_i32 (standard +ℤ rule.extra)) (plain_rule rule standard first)
+
+-- the rule of a zone from its three fields: all of them, or none
+abbrev pub rule_fields : (List ℕ → Option RawRule) → Option Resource → Option Resource → Option Resource → Option (Option PlainRule)
+rule_fields find None None None = Some None
+rule_fields find (Some key) (Some raw) (Some year) = used_rule find key raw year >>= λ rule. Some (Some rule)
+rule_fields find key raw year = None
+
+unfoldable pub zone_rule : (List ℕ → Option RawRule) → Resource → Option (Option PlainRule)
+zone_rule find zone =
+    rule_fields find (field_in (codes "finalRule") zone) (field_in (codes "finalRaw") zone) (field_in (codes "finalYear") zone)
+
+-- ---- the lists of a zone
 
 -- two words as signed numbers, where their sum fits
 abbrev pub pair_of : ℕ → ℕ → Option (ℤ × ℤ)
@@ -40,53 +84,101 @@ type_offsets zone = do
   words ← integers_in types
   offset_steps words
 
-unfoldable pub links_of : Resource → Option (List ℕ)
-links_of zone = list_or_empty integers_in (field_in (codes "links") zone)
+-- the offset of the first pair
+abbrev pub initial_of : List (ℤ × ℤ) → Option Offset
+initial_of pairs = first_of pairs >>= λ pair. Some (pair_offset pair)
 
--- none of the fields of a table of transitions, and none of a rule's
-unfoldable pub lacks_transitions : Resource → Bool
-lacks_transitions zone =
-    is_none (field_in (codes "transPre32") zone) && is_none (field_in (codes "trans") zone)
-    && is_none (field_in (codes "transPost32") zone) && is_none (field_in (codes "typeMap") zone)
-    && is_none (field_in (codes "finalRule") zone) && is_none (field_in (codes "finalRaw") zone)
-    && is_none (field_in (codes "finalYear") zone)
+unfoldable pub integers_at : List ℕ → Resource → Option (List ℕ)
+integers_at key zone = list_or_empty integers_in (field_in key zone)
 
-abbrev pub plain_zone : ℤ × ℤ → List (ℤ × ℤ) → List ℕ → PlainZone
-plain_zone first pairs links = record {
-  initial = pair_offset first;
-  table = [];
-  early = 0;
-  late = 0;
-  rule = None;
+unfoldable pub bytes_at : List ℕ → Resource → Option (List ℕ)
+bytes_at key zone = list_or_empty bytes_in (field_in key zone)
+
+abbrev pub wide_second : ℕ → ℕ → ℤ
+wide_second a b = as_i32 a *ℤ pos 4294967296 +ℤ pos b
+
+-- the seconds of an even number of words
+abbrev pub wide : List ℕ → List ℤ
+wide [] = []
+wide (a ∷ []) = []
+wide (a ∷ b ∷ words) = wide_second a b ∷ wide words
+
+unfoldable pub wide_at : List ℕ → Resource → Option (List ℤ)
+wide_at key zone = do
+  words ← integers_at key zone
+  wide_seconds words
+
+-- ---- the table
+
+abbrev pub seconds_of : List ℕ → List ℕ → List ℕ → List ℤ
+seconds_of early middle late = wide early ++ map as_i32 middle ++ wide late
+
+-- a list that is not empty
+abbrev pub filled : List ℤ → Option (List ℤ)
+filled [] = None
+filled (second ∷ seconds) = Some (second ∷ seconds)
+
+-- a transition at a second to a pair
+abbrev pub transition_to : ℤ × ℤ → ℤ → Transition
+transition_to pair second = record { since = second; offset = pair.0 +ℤ pair.1; rule_applies = int_lt (pos 0) pair.1 }
+
+-- and to the pair of a number
+abbrev pub transition_at : List (ℤ × ℤ) → ℕ → ℤ → Option Transition
+transition_at pairs n second = do
+  pair ← slice_get pairs n
+  Some (transition_to pair second)
+
+-- ---- a zone
+
+abbrev pub zone_from : Offset → List Transition → ℕ → ℕ → Option PlainRule → List (ℤ × ℤ) → List ℕ → List ℕ → PlainZone
+zone_from initial table early late rule pairs numbers links = record {
+  initial = initial;
+  table = table;
+  early = early;
+  late = late;
+  rule = rule;
   type_offsets = pairs;
-  type_map = [];
+  type_map = numbers;
   links = links;
 }
 
-unfoldable pub simple_zone : Resource → Option PlainZone
-simple_zone zone = if lacks_transitions zone then (do
+unfoldable pub zone_steps : (List ℕ → Option RawRule) → Resource → Option PlainZone
+zone_steps find zone = do
   pairs ← type_offsets zone
-  first ← first_of pairs
-  links ← links_of zone
-  Some (plain_zone first pairs links)) else None
+  initial ← initial_of pairs
+  early ← wide_at (codes "transPre32") zone
+  middle ← integers_at (codes "trans") zone
+  late ← wide_at (codes "transPost32") zone
+  numbers ← bytes_at (codes "typeMap") zone
+  links ← integers_at (codes "links") zone
+  table ← table_of pairs (early ++ map as_i32 middle ++ late) numbers
+  rule ← zone_rule find zone
+  Some (zone_from initial table (length early) (length late) rule pairs numbers links)
 
 -- ---- the list
 
-unfoldable pub simple_named : Resource → Resource → Resource → Option NamedZone
-simple_named zone name region = do
+abbrev pub place_by : Option ℕ → (List ℕ → Option RawRule) → Resource → Option Place
+place_by (Some n) find zone = Some (IsAlias n)
+place_by None find zone = zone_steps find zone >>= λ plain. Some (IsZone plain)
+
+unfoldable pub place_steps : (List ℕ → Option RawRule) → Resource → Option Place
+place_steps find zone = place_by (index_in zone) find zone
+
+unfoldable pub named_steps : (List ℕ → Option RawRule) → Resource → Resource → Resource → Option NamedZone
+named_steps find zone name region = do
   units ← text_in name
   region_units ← text_in region
   code ← region_of_chars region_units
-  plain ← simple_zone zone
-  Some (record { name = units; region = code; place = IsZone plain })
+  place ← place_steps find zone
+  Some (record { name = units; region = code; place = place })
 
-abbrev pub simple_zones : List Resource → List Resource → List Resource → Option (List NamedZone)
-simple_zones [] [] [] = Some []
-simple_zones (zone ∷ zones) (name ∷ names) (region ∷ regions) = do
-  first ← simple_named zone name region
-  others ← simple_zones zones names regions
+abbrev pub list_steps : (List ℕ → Option RawRule) → List Resource → List Resource → List Resource → Option (List NamedZone)
+list_steps find [] [] [] = Some []
+list_steps find (zone ∷ zones) (name ∷ names) (region ∷ regions) = do
+  first ← named_steps find zone name region
+  others ← list_steps find zones names regions
   Some (first ∷ others)
-simple_zones zones names regions = None
+list_steps find zones names regions = None
 
 -- the name of the first comes before that of the second
 abbrev pub is_before : NamedZone → NamedZone → Bool
@@ -97,19 +189,27 @@ array_in key root = do
   field ← field_in key root
   items_in field
 
-unfoldable pub lacks_rules : Resource → Bool
-lacks_rules root = are_no_rules (field_in (codes "Rules") root >>= entries_in)
+unfoldable pub table_in : List ℕ → Resource → Option (List (List ℕ × Resource))
+table_in key root = do
+  field ← field_in key root
+  entries_in field
 
 -- three arrays of one length, which a list of zones may have
 abbrev pub are_arrays : List Resource → List Resource → List Resource → Bool
 are_arrays zones names regions =
     nat_lt 0 (length zones) && nat_le (length zones) 65536 && (length names == length zones) && (length regions == length zones)
 
-unfoldable pub simple_steps : Resource → Option (List NamedZone)
-simple_steps root = do
+unfoldable pub checked_steps : (List ℕ → Option RawRule) → List Resource → List Resource → List Resource → Option (List NamedZone)
+checked_steps find zones names regions =
+    if are_arrays zones names regions then (do
+      list ← list_steps find zones names regions
+      when (rises list && all_resolved list list) list) else None
+
+unfoldable pub root_steps : Resource → Option (List NamedZone)
+root_steps root = do
   zones ← array_in (codes "Zones") root
   names ← array_in (codes "Names") root
   regions ← array_in (codes "Regions") root
-  if are_arrays zones names regions && lacks_rules root then (do
-    list ← simple_zones zones names regions
-    when (rises list) list) else None
+  entries ← table_in (codes "Rules") root
+  rules ← rules_of entries
+  checked_steps (λ text. rule_named text rules) zones names regions

@@ -1,36 +1,44 @@
 -- The zone list that a `ZoneInfo64` keeps.
-use Rattle.std.specs.Prelude.{◌≡◌, ◌≤◌, List, [], map, length, All, None, IsTrue}
+use Rattle.std.specs.Prelude.{◌≡◌, ◌≤◌, ◌<◌, List, map, length, All, IsTrue}
 use Rattle.std.specs.String.{string_bytes}
 use Rattle.zoneinfo64.specs.declared.zone.Named.{Named}
+use Rattle.zoneinfo64.specs.declared.zone.Item.{Item}
+use Rattle.zoneinfo64.specs.declared.zone.Item.TheVariants as item
 use Rattle.zoneinfo64.specs.declared.zone.ZoneData.{ZoneData}
 use Rattle.zoneinfo64.specs.Zone.{PlainZone}
-use Rattle.zoneinfo64.specs.NamedZone.{NamedZone, IsZone, name_text}
-use Rattle.zoneinfo64.specs.Bundle.{rises}
+use Rattle.zoneinfo64.specs.NamedZone.{NamedZone, Place, IsZone, IsAlias, name_text}
+use Rattle.zoneinfo64.specs.Bundle.{rises, all_resolved}
 
 abbrev pub plain_data : ZoneData → PlainZone
 plain_data d = record {
   initial = d.initial;
-  table = [];
-  early = 0;
-  late = 0;
-  rule = None;
+  table = d.table.items;
+  early = d.early;
+  late = d.late;
+  rule = d.rule;
   type_offsets = d.type_offsets.items;
-  type_map = [];
+  type_map = d.type_map.items;
   links = d.links.items;
 }
 
+abbrev pub place_of_item : Item → Place
+place_of_item (item.Zone d) = IsZone (plain_data d)
+place_of_item (item.Alias n) = IsAlias n
+
 abbrev pub named_of : Named → NamedZone
-named_of n = record { name = n.name.items; region = n.region; place = IsZone (plain_data n.zone) }
+named_of n = record { name = n.name; region = n.region; place = place_of_item n.item }
 
 abbrev pub zones_of : List Named → List NamedZone
 zones_of entries = map named_of entries
 
 -- the text beside a name is that of its units
 abbrev pub HasText : Named → Type 0
-HasText n = string_bytes n.text ≡ name_text n.name.items
+HasText n = string_bytes n.text ≡ name_text n.name
 
--- entries that make a list: not too many, with rising names
+-- entries that make a list: at least one, not too many, with rising names, and each alias is the place of a zone
 pub record AreEntries (entries : List Named) : Type 0 where
+  pub some : 0 < length entries
   pub few : length entries ≤ 65536
   pub texts : All HasText entries
   pub rising : IsTrue (rises (zones_of entries))
+  pub resolved : IsTrue (all_resolved (zones_of entries) (zones_of entries))

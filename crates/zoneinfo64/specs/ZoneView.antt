@@ -1,8 +1,13 @@
--- The plain zone behind a `Zone`.
-use Rattle.std.specs.Prelude.{Option}
+-- The entry and the plain zone behind a `Zone`.
+use Rattle.std.specs.Prelude.{Option, slice_get}
 use Rattle.zoneinfo64.specs.Zone.{PlainZone}
-use Rattle.zoneinfo64.specs.NamedZone.{zone_at}
+use Rattle.zoneinfo64.specs.NamedZone.{NamedZone, resolved_in}
 use Rattle.zoneinfo64.specs.declared.zone.Zone.{Zone}
 
+-- the entry at its own place
+abbrev pub entry_of : Zone → Option NamedZone
+entry_of z = slice_get z.info.now z.place
+
+-- the zone there, an alias replaced by the zone at its place
 abbrev pub plain_zone : Zone → Option PlainZone
-plain_zone z = zone_at z.info.now z.place
+plain_zone z = resolved_in z.info.now (entry_of z)

@@ -1,25 +1,45 @@
 //! The zones of a bundle.
-ghost use Rattle.std.specs.Prelude.{◌≡◌, length, All, IfOk};
+ghost use Rattle.std.specs.Prelude.{◌≡◌, length, All, IfOk, is_some};
+ghost use Rattle.zoneinfo64.specs.NamedZone.{zone_at};
 ghost use Rattle.resb.specs.Header.{tree_of};
-ghost use Rattle.zoneinfo64.specs.Bundle.{rises};
-ghost use Rattle.zoneinfo64.specs.Steps.{Reads, simple_named, simple_zones, array_in, lacks_rules, is_before, are_arrays, simple_steps};
-ghost use Rattle.zoneinfo64.specs.ZoneList.{zones_of, named_of, HasText, AreEntries};
+ghost use Rattle.zoneinfo64.specs.Bundle.{rises, is_resolved, all_resolved};
+ghost use Rattle.zoneinfo64.specs.RuleView.{rule_for};
+ghost use Rattle.zoneinfo64.specs.Steps.{Reads, place_steps, named_steps, list_steps, array_in, table_in, is_before, are_arrays, checked_steps, root_steps};
+ghost use Rattle.zoneinfo64.specs.ZoneList.{zones_of, named_of, place_of_item, HasText, AreEntries};
 
 use crate::error::BinaryDeserializerError;
-use crate::fields::{region_of, simple_zone};
-use crate::zone::{Named, ZoneInfo64};
+use crate::fields::{region_of, zone_data};
+use crate::rules::{Rules, rules};
+use crate::utf16::PotentialUtf16;
+use crate::zone::{Item, Named, ZoneInfo64};
 use resb::{ResbError, Resource};
+use sqlite_items::Items;
 use std::alloc::Global;
 
+/// A zone, or the place of one.
+#[tactic(auto, unfolding(crate::specs::Steps::place_steps))]
+fn item(alloc: Global, rules: &Rules, zone: &Resource) -> Result<Item, BinaryDeserializerError>
+    ensures { Reads place_of_item result (place_steps (rule_for rules.now) zone.now) }
+{
+    match zone.index() {
+        Some(place) => Ok(Item::Alias(place)),
+        None => {
+            let data = zone_data(alloc, rules, zone)?;
+            Ok(Item::Zone(data))
+        }
+    }
+}
+
 /// One zone with its name and region.
-#[tactic(auto, unfolding(crate::specs::Steps::simple_named))]
+#[tactic(auto, unfolding(crate::specs::Steps::named_steps))]
 fn named(
     alloc: Global,
+    rules: &Rules,
     zone: &Resource,
     name: &Resource,
     region: &Resource,
 ) -> Result<Named, BinaryDeserializerError>
-    ensures zone { Reads named_of result (simple_named zone.now name.now region.now) }
+    ensures zone { Reads named_of result (named_steps (rule_for rules.now) zone.now name.now region.now) }
     ensures text { IfOk result HasText }
 {
     let Some(units) = name.text() else {
@@ -31,32 +51,33 @@ fn named(
     let Some(region) = region_of(region_units) else {
         return Err(BinaryDeserializerError::Rules);
     };
-    let zone = simple_zone(alloc, zone)?;
-    let name = Vec::from_slice(alloc, units)?;
+    let item = item(alloc, rules, zone)?;
+    let name = PotentialUtf16::from_units(alloc, units)?;
     let text = String::from_utf16_lossy(alloc, units)?;
     Ok(Named {
         name,
         text,
         region,
-        zone,
+        item,
     })
 }
 
 /// The zones of three arrays, read side by side.
 fn named_zones(
     alloc: Global,
+    rules: &Rules,
     zones: &[Resource],
     names: &[Resource],
     regions: &[Resource],
 ) -> Result<Vec<Named>, BinaryDeserializerError>
     requires names { length names.now ≡ length zones.now }
     requires regions { length regions.now ≡ length zones.now }
-    ensures zones { Reads (λ v. zones_of v.items) result (simple_zones zones.now names.now regions.now) }
+    ensures zones { Reads (λ v. zones_of v.items) result (list_steps (rule_for rules.now) zones.now names.now regions.now) }
     ensures texts { IfOk result (λ v. All HasText v.items) }
 {
     let mut entries = Vec::with_capacity(alloc, zones.len())?;
     for at in 0..zones.len() {
-        let entry = named(alloc, &zones[at], &names[at], &regions[at])?;
+        let entry = named(alloc, rules, &zones[at], &names[at], &regions[at])?;
         entries.push(entry)?;
     }
     Ok(entries)
@@ -97,14 +118,51 @@ fn array<'a>(root: &'a Resource, key: &[u8]) -> Result<&'a [Resource], BinaryDes
     }
 }
 
-#[tactic(auto, unfolding(crate::specs::Steps::lacks_rules))]
-fn lacks_rules(root: &Resource) -> bool
-    ensures { result ≡ lacks_rules root.now }
+#[tactic(auto, unfolding(crate::specs::Steps::table_in))]
+fn table<'a>(
+    root: &'a Resource,
+    key: &[u8],
+) -> Result<&'a [(Items<u8>, Resource)], BinaryDeserializerError>
+    ensures { Reads (λ r. r.now) result (table_in key.now root.now) }
 {
-    let Some(field) = root.field(b"Rules") else {
-        return false;
+    let Some(field) = root.field(key) else {
+        return Err(BinaryDeserializerError::Rules);
     };
-    matches!(field.entries(), Some([]))
+    match field.entries() {
+        Some(entries) => Ok(entries),
+        None => Err(BinaryDeserializerError::Rules),
+    }
+}
+
+/// Whether an entry is a zone, or an alias whose place is that of a zone.
+fn is_resolved(entries: &[Named], entry: &Named) -> bool
+    ensures { result ≡ is_resolved (zones_of entries.now) (named_of entry.now).place }
+{
+    match &entry.item {
+        Item::Zone(_) => true,
+        Item::Alias(place) => is_zone(entries, *place as usize),
+    }
+}
+
+fn is_zone(entries: &[Named], place: usize) -> bool
+    ensures { result ≡ is_some (zone_at (zones_of entries.now) place) }
+{
+    match entries.get(place) {
+        Some(entry) => matches!(entry.item, Item::Zone(_)),
+        None => false,
+    }
+}
+
+/// Whether each alias is the place of a zone.
+fn all_resolved(entries: &[Named]) -> bool
+    ensures { result ≡ all_resolved (zones_of entries.now) (zones_of entries.now) }
+{
+    for at in 0..entries.len() {
+        if !is_resolved(entries, &entries[at]) {
+            return false;
+        }
+    }
+    true
 }
 
 /// Whether three arrays have one length, and a list of zones may have it.
@@ -117,28 +175,45 @@ fn are_arrays(zones: &[Resource], names: &[Resource], regions: &[Resource]) -> b
         && regions.len() == zones.len()
 }
 
+/// The zones of three arrays.
+#[tactic(auto, unfolding(crate::specs::Steps::checked_steps))]
+fn checked_zones(
+    alloc: Global,
+    rules: &Rules,
+    zones: &[Resource],
+    names: &[Resource],
+    regions: &[Resource],
+) -> Result<Vec<Named>, BinaryDeserializerError>
+    ensures zones { Reads (λ v. zones_of v.items) result (checked_steps (rule_for rules.now) zones.now names.now regions.now) }
+    ensures entries { IfOk result (λ v. AreEntries v.items) }
+{
+    if !are_arrays(zones, names, regions) {
+        return Err(BinaryDeserializerError::Rules);
+    }
+    let entries = named_zones(alloc, rules, zones, names, regions)?;
+    if rises(&entries) && all_resolved(&entries) {
+        Ok(entries)
+    } else {
+        Err(BinaryDeserializerError::Rules)
+    }
+}
+
 /// The zones of the tree of a bundle.
-#[tactic(auto, unfolding(crate::specs::Steps::simple_steps))]
+#[tactic(auto, unfolding(crate::specs::Steps::root_steps))]
 fn zones_in(alloc: Global, root: &Resource) -> Result<Vec<Named>, BinaryDeserializerError>
-    ensures zones { Reads (λ v. zones_of v.items) result (simple_steps root.now) }
+    ensures zones { Reads (λ v. zones_of v.items) result (root_steps root.now) }
     ensures entries { IfOk result (λ v. AreEntries v.items) }
 {
     let zones = array(root, b"Zones")?;
     let names = array(root, b"Names")?;
     let regions = array(root, b"Regions")?;
-    if !are_arrays(zones, names, regions) || !lacks_rules(root) {
-        return Err(BinaryDeserializerError::Rules);
-    }
-    let entries = named_zones(alloc, zones, names, regions)?;
-    if !rises(&entries) {
-        return Err(BinaryDeserializerError::Rules);
-    }
-    Ok(entries)
+    let rules = rules(alloc, table(root, b"Rules")?)?;
+    checked_zones(alloc, &rules, zones, names, regions)
 }
 
 impl ZoneInfo64 {
     ghost use Rattle.std.specs.Prelude.{◌≡◌, Some, None, IsSome, IfOk, IsErrOf};
-    ghost use Rattle.zoneinfo64.specs.Simple.{zones_of_words};
+    ghost use Rattle.zoneinfo64.specs.Bundle.{zones_of_words};
     ghost use Rattle.zoneinfo64.specs.declared.error.BinaryDeserializerError.TheVariants as errors;
 
     /// Reads the zones of a bundle.
@@ -149,8 +224,7 @@ impl ZoneInfo64 {
     /// # Errors
     ///
     /// - `Tree` where the words denote no resource tree.
-    /// - `Rules` where the tree breaks a rule of zone data, has rules, or has a zone with a field
-    ///   of transitions or of a rule.
+    /// - `Rules` where the tree breaks a rule of zone data.
     /// - `Memory` where memory could not be found.
     pub fn try_from_u32s(
         alloc: Global,

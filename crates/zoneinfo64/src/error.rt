@@ -1,4 +1,6 @@
 use std::alloc::{AllocError, AllocFailed};
+use std::fmt;
+use std::fmt::{Formatter, Write};
 
 /// Why the words of a bundle were refused.
 #[derive(Clone, Copy, Debug, PartialEq, Eq)]
@@ -30,5 +32,20 @@ impl<T: Drop> From<AllocFailed<T>> for BinaryDeserializerError {
 
     fn from(_: AllocFailed<T>) -> BinaryDeserializerError {
         BinaryDeserializerError::Memory
+    }
+}
+
+impl fmt::Display for BinaryDeserializerError {
+    ghost use Rattle.std.specs.Prelude.{Some};
+    ghost use Rattle.zoneinfo64.specs.Texts.{error_text};
+
+    ghost output = { λ e. Some (error_text e) };
+
+    fn fmt<W: Write>(&self, f: &mut Formatter<W>) -> fmt::Result {
+        match self {
+            BinaryDeserializerError::Memory => write!(f, "memory could not be found"),
+            BinaryDeserializerError::Tree => write!(f, "no resource tree"),
+            BinaryDeserializerError::Rules => write!(f, "zone data rule broken"),
+        }
     }
 }

@@ -1,12 +1,16 @@
 //! The fields of a zone.
-ghost use Rattle.std.specs.Prelude.{◌≡◌, ℕ, ◌+ℤ◌, ◌<◌, IsTrue, IfOk, is_none, Option, Some};
+ghost use Rattle.std.specs.Prelude.{◌≡◌, ℕ, ◌+ℤ◌, ◌<◌, ◌∷◌, [], IsTrue, IfOk, IfSome, IfNone, Option, Some, length, option_map, slice_get};
 ghost use Rattle.resb.specs.Fields.{field_in, integers_in};
-ghost use Rattle.zoneinfo64.specs.Bundle.{as_i32, fits_i32, pair_offset, sums_fit, first_of, region_byte, region_code, region_of_chars, is_capital, is_digit, list_or_empty};
-ghost use Rattle.zoneinfo64.specs.Steps.{Reads, pair_of, offset_steps, type_offsets, links_of, lacks_transitions, simple_zone};
+ghost use Rattle.zoneinfo64.specs.Bundle.{as_i32, fits_i32, pair_offset, sums_fit, table_of, region_byte, region_of_chars};
+ghost use Rattle.zoneinfo64.specs.RuleView.{rule_for};
+ghost use Rattle.zoneinfo64.specs.Steps.{Reads, pair_of, offset_steps, type_offsets, initial_of, integers_at, bytes_at, wide, wide_second, wide_at, seconds_of, filled, transition_to, transition_at, used_rule, zone_rule, zone_steps};
 ghost use Rattle.zoneinfo64.specs.ZoneList.{plain_data};
 
 use crate::error::BinaryDeserializerError;
-use crate::offset::{Offset, UtcOffset};
+use crate::offset::{Offset, Transition, UtcOffset};
+use crate::region::Region;
+use crate::rule::YearRule;
+use crate::rules::Rules;
 use crate::zone::ZoneData;
 use resb::Resource;
 use std::alloc::Global;
@@ -18,38 +22,14 @@ fn region_byte(unit: u16) -> u8
     if unit < 128 { unit as u8 } else { 0 }
 }
 
-fn is_capital(byte: u8) -> bool
-    ensures { result ≡ is_capital byte }
-{
-    byte.is_ascii_uppercase()
-}
-
-fn is_digit(byte: u8) -> bool
-    ensures { result ≡ is_digit byte }
-{
-    byte.is_ascii_digit()
-}
-
-fn region_code(a: u8, b: u8, c: u8) -> Option<[u8; 3]>
-    ensures { result ≡ region_code a b c }
-{
-    let two_letters = is_capital(a) && is_capital(b) && c == 0;
-    let three_digits = is_digit(a) && is_digit(b) && is_digit(c);
-    if two_letters || three_digits {
-        Some([a, b, c])
-    } else {
-        None
-    }
-}
-
-/// The code of a region: two capitals and a zero byte, or three digits.
-pub fn region_of(units: &[u16]) -> Option<[u8; 3]>
+/// The region of a text: two capitals, or three digits.
+pub fn region_of(units: &[u16]) -> Option<Region>
     ensures { result ≡ region_of_chars units.now }
 {
     // A pair of surrogates is one character, which counts as 0, and so do its units.
     match units {
-        [a, b] => region_code(region_byte(*a), region_byte(*b), 0),
-        [a, b, c, ..] => region_code(region_byte(*a), region_byte(*b), region_byte(*c)),
+        [a, b] => Region::try_from_raw([region_byte(*a), region_byte(*b), 0]),
+        [a, b, c, ..] => Region::try_from_raw([region_byte(*a), region_byte(*b), region_byte(*c)]),
         _ => None,
     }
 }
@@ -106,38 +86,109 @@ fn type_offsets(alloc: Global, zone: &Resource) -> Result<Vec<(i32, i32)>, Binar
     offset_pairs(alloc, words)
 }
 
-#[tactic(auto, unfolding(crate::specs::Steps::links_of))]
-fn links(alloc: Global, zone: &Resource) -> Result<Vec<u32>, BinaryDeserializerError>
-    ensures { Reads (λ v. v.items) result (links_of zone.now) }
+/// A list of integers, empty where it is missing.
+#[tactic(auto, unfolding(crate::specs::Steps::integers_at))]
+fn integers<'a>(zone: &'a Resource, key: &[u8]) -> Result<&'a [u32], BinaryDeserializerError>
+    ensures { Reads (λ r. r.now) result (integers_at key.now zone.now) }
 {
-    let Some(field) = zone.field(b"links") else {
-        return Ok(Vec::new(alloc));
+    let Some(field) = zone.field(key) else {
+        return Ok(&[]);
     };
-    let Some(words) = field.integers() else {
-        return Err(BinaryDeserializerError::Rules);
-    };
-    let links = Vec::from_slice(alloc, words)?;
-    Ok(links)
+    match field.integers() {
+        Some(words) => Ok(words),
+        None => Err(BinaryDeserializerError::Rules),
+    }
 }
 
-fn lacks(zone: &Resource, key: &[u8]) -> bool
-    ensures { result ≡ is_none (field_in key.now zone.now) }
+/// A list of bytes, empty where it is missing.
+#[tactic(auto, unfolding(crate::specs::Steps::bytes_at))]
+fn bytes<'a>(zone: &'a Resource, key: &[u8]) -> Result<&'a [u8], BinaryDeserializerError>
+    ensures { Reads (λ r. r.now) result (bytes_at key.now zone.now) }
 {
-    zone.field(key).is_none()
+    let Some(field) = zone.field(key) else {
+        return Ok(&[]);
+    };
+    match field.bytes() {
+        Some(bytes) => Ok(bytes),
+        None => Err(BinaryDeserializerError::Rules),
+    }
 }
 
-/// Whether a zone has no table of transitions and no rule.
-#[tactic(auto, unfolding(crate::specs::Steps::lacks_transitions))]
-fn lacks_transitions(zone: &Resource) -> bool
-    ensures { result ≡ lacks_transitions zone.now }
+/// The words of a list of seconds, two each, empty where it is missing.
+#[tactic(auto, unfolding(crate::specs::Steps::wide_at))]
+fn wide<'a>(zone: &'a Resource, key: &[u8]) -> Result<&'a [u32], BinaryDeserializerError>
+    ensures { Reads (λ r. wide r.now) result (wide_at key.now zone.now) }
 {
-    lacks(zone, b"transPre32")
-        && lacks(zone, b"trans")
-        && lacks(zone, b"transPost32")
-        && lacks(zone, b"typeMap")
-        && lacks(zone, b"finalRule")
-        && lacks(zone, b"finalRaw")
-        && lacks(zone, b"finalYear")
+    let words = integers(zone, key)?;
+    if words.len() % 2 == 0 {
+        Ok(words)
+    } else {
+        Err(BinaryDeserializerError::Rules)
+    }
+}
+
+/// How many seconds the words are.
+fn wide_len(words: &[u32]) -> usize
+    ensures { result ≡ length (wide words.now) }
+{
+    words.len() / 2
+}
+
+/// A second of two words.
+fn wide_second(high: u32, low: u32) -> i64
+    ensures { result ≡ wide_second high low }
+{
+    i64::from(signed(high)) * 4_294_967_296 + i64::from(low)
+}
+
+/// The seconds of the three parts of a table that are left: two words each in the first and third part, and one in the
+/// second.
+#[derive(Clone, Copy)]
+struct Seconds<'a> {
+    early: &'a [u32],
+    middle: &'a [u32],
+    late: &'a [u32],
+}
+
+/// The next second, and those after it.
+fn next_second<'a>(
+    early: &'a [u32],
+    middle: &'a [u32],
+    late: &'a [u32],
+) -> Option<(i64, Seconds<'a>)>
+    ensures { option_map (λ p. p.0 ∷ seconds_of p.1.early.now p.1.middle.now p.1.late.now) result ≡ filled (seconds_of early.now middle.now late.now) }
+{
+    if let [high, low, early @ ..] = early {
+        return Some((
+            wide_second(*high, *low),
+            Seconds {
+                early,
+                middle,
+                late,
+            },
+        ));
+    }
+    if let [second, middle @ ..] = middle {
+        return Some((
+            i64::from(signed(*second)),
+            Seconds {
+                early,
+                middle,
+                late,
+            },
+        ));
+    }
+    if let [high, low, late @ ..] = late {
+        return Some((
+            wide_second(*high, *low),
+            Seconds {
+                early,
+                middle,
+                late,
+            },
+        ));
+    }
+    None
 }
 
 fn pair_offset(pair: (i32, i32)) -> Offset
@@ -151,23 +202,160 @@ fn pair_offset(pair: (i32, i32)) -> Offset
     }
 }
 
-/// A zone without transitions.
-#[tactic(auto, unfolding(crate::specs::Steps::simple_zone))]
-pub fn simple_zone(alloc: Global, zone: &Resource) -> Result<ZoneData, BinaryDeserializerError>
-    ensures { Reads plain_data result (simple_zone zone.now) }
+/// The pair of that number.
+fn pair_at(pairs: &[(i32, i32)], number: u8) -> Option<(i32, i32)>
+    ensures { result ≡ slice_get pairs.now number }
 {
-    if !lacks_transitions(zone) {
-        return Err(BinaryDeserializerError::Rules);
+    pairs.get(usize::from(number)).copied()
+}
+
+/// The transition at a second to a pair.
+fn transition_to(pair: (i32, i32), second: i64) -> Transition
+    requires { IsTrue (fits_i32 (pair.0 +ℤ pair.1)) }
+    ensures { result ≡ transition_to pair second }
+{
+    let (standard, extra) = pair;
+    Transition {
+        since: second,
+        offset: UtcOffset::from_seconds(standard + extra),
+        rule_applies: extra > 0,
     }
-    let type_offsets = type_offsets(alloc, zone)?;
-    let Some(first) = type_offsets.first() else {
+}
+
+/// The transition at a second to the pair of that number.
+fn transition(pairs: &[(i32, i32)], number: u8, second: i64) -> Option<Transition>
+    requires { IsTrue (sums_fit pairs.now) }
+    ensures { result ≡ transition_at pairs.now number second }
+{
+    match pair_at(pairs, number) {
+        Some(pair) => Some(transition_to(pair, second)),
+        None => None,
+    }
+}
+
+/// The table of a zone: the transitions at these seconds to the pairs of these numbers.
+fn table(
+    alloc: Global,
+    pairs: &[(i32, i32)],
+    early: &[u32],
+    middle: &[u32],
+    late: &[u32],
+    numbers: &[u8],
+) -> Result<Vec<Transition>, BinaryDeserializerError>
+    requires { IsTrue (sums_fit pairs.now) }
+    ensures { Reads (λ v. v.items) result (table_of pairs.now (seconds_of early.now middle.now late.now) numbers.now) }
+{
+    let mut table = Vec::with_capacity(alloc, numbers.len())?;
+    let mut seconds = Seconds {
+        early,
+        middle,
+        late,
+    };
+    let mut rest = numbers;
+    while let [number, more @ ..] = rest {
+        let Some((second, others)) = next_second(seconds.early, seconds.middle, seconds.late) else {
+            return Err(BinaryDeserializerError::Rules);
+        };
+        let Some(entry) = transition(pairs, *number, second) else {
+            return Err(BinaryDeserializerError::Rules);
+        };
+        table.push(entry)?;
+        seconds = others;
+        rest = more;
+    }
+    match next_second(seconds.early, seconds.middle, seconds.late) {
+        None => Ok(table),
+        Some(_) => Err(BinaryDeserializerError::Rules),
+    }
+}
+
+/// The rule that a zone names.
+#[tactic(auto, unfolding(crate::specs::Steps::used_rule))]
+fn used_rule(
+    rules: &Rules,
+    key: &Resource,
+    raw: &Resource,
+    year: &Resource,
+) -> Result<YearRule, BinaryDeserializerError>
+    ensures { Reads (λ r. r) result (used_rule (rule_for rules.now) key.now raw.now year.now) }
+{
+    let Some(text) = key.text() else {
         return Err(BinaryDeserializerError::Rules);
     };
-    let initial = pair_offset(*first);
-    let links = links(alloc, zone)?;
+    let Some(raw) = raw.signed() else {
+        return Err(BinaryDeserializerError::Rules);
+    };
+    let Some(first_year) = year.signed() else {
+        return Err(BinaryDeserializerError::Rules);
+    };
+    let Some(dates) = rules.get(text) else {
+        return Err(BinaryDeserializerError::Rules);
+    };
+    match YearRule::from_dates(dates, raw, first_year) {
+        Some(rule) => Ok(rule),
+        None => Err(BinaryDeserializerError::Rules),
+    }
+}
+
+/// The rule of a zone, if it has the three fields of one.
+#[tactic(auto, unfolding(crate::specs::Steps::zone_rule))]
+fn zone_rule(rules: &Rules, zone: &Resource) -> Result<Option<YearRule>, BinaryDeserializerError>
+    ensures { Reads (λ r. r) result (zone_rule (rule_for rules.now) zone.now) }
+{
+    let key = zone.field(b"finalRule");
+    let raw = zone.field(b"finalRaw");
+    let year = zone.field(b"finalYear");
+    match (key, raw, year) {
+        (None, None, None) => Ok(None),
+        (Some(key), Some(raw), Some(year)) => {
+            let rule = used_rule(rules, key, raw, year)?;
+            Ok(Some(rule))
+        }
+        _ => Err(BinaryDeserializerError::Rules),
+    }
+}
+
+/// What holds before all transitions: the offset of the first pair.
+fn initial(pairs: &[(i32, i32)]) -> Option<Offset>
+    requires { IsTrue (sums_fit pairs.now) }
+    ensures { result ≡ initial_of pairs.now }
+{
+    match pairs.first() {
+        Some(pair) => Some(pair_offset(*pair)),
+        None => None,
+    }
+}
+
+/// A zone from the table of its fields.
+#[tactic(auto, unfolding(crate::specs::Steps::zone_steps))]
+pub fn zone_data(
+    alloc: Global,
+    rules: &Rules,
+    zone: &Resource,
+) -> Result<ZoneData, BinaryDeserializerError>
+    ensures { Reads plain_data result (zone_steps (rule_for rules.now) zone.now) }
+{
+    let type_offsets = type_offsets(alloc, zone)?;
+    let Some(initial) = initial(&type_offsets) else {
+        return Err(BinaryDeserializerError::Rules);
+    };
+    let early = wide(zone, b"transPre32")?;
+    let middle = integers(zone, b"trans")?;
+    let late = wide(zone, b"transPost32")?;
+    let numbers = bytes(zone, b"typeMap")?;
+    let links = integers(zone, b"links")?;
+    let table = table(alloc, &type_offsets, early, middle, late, numbers)?;
+    let rule = zone_rule(rules, zone)?;
+    let type_map = Vec::from_slice(alloc, numbers)?;
+    let links = Vec::from_slice(alloc, links)?;
     Ok(ZoneData {
         initial,
+        table,
+        early: wide_len(early),
+        late: wide_len(late),
+        rule,
         type_offsets,
+        type_map,
         links,
     })
 }

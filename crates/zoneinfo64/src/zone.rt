@@ -1,26 +1,42 @@
 //! A bundle of zones, and a zone in it.
-ghost use Rattle.std.specs.Prelude.{◌≡◌, IsTrue, is_some};
-ghost use Rattle.zoneinfo64.specs.NamedZone.{zone_at};
+ghost use Rattle.std.specs.Prelude.{◌≡◌, IsTrue, is_some, slice_get};
+ghost use Rattle.zoneinfo64.specs.NamedZone.{resolved_in};
 
-use crate::offset::{Offset, PossibleOffset, UtcOffset};
+use crate::offset::{Offset, PossibleOffset, Transition, UtcOffset};
+use crate::region::Region;
+use crate::rule::YearRule;
+use crate::utf16::PotentialUtf16;
 use std::cmp::Ordering;
 use std::marker::Model;
 
-/// A zone's data: what holds at first, and the lists that are kept as they were read.
+/// A zone's data: what holds at first, the table of transitions with the lengths of its first and third part, the yearly
+/// rule, and the lists that are kept as they were read.
 #[derive(Drop)]
 pub struct ZoneData {
     pub initial: Offset,
+    pub table: Vec<Transition>,
+    pub early: usize,
+    pub late: usize,
+    pub rule: Option<YearRule>,
     pub type_offsets: Vec<(i32, i32)>,
+    pub type_map: Vec<u8>,
     pub links: Vec<u32>,
+}
+
+/// A zone, or the place of one.
+#[derive(Drop)]
+pub enum Item {
+    Zone(ZoneData),
+    Alias(u32),
 }
 
 /// A zone with its name, as units and as text, and its region.
 #[derive(Drop)]
 pub struct Named {
-    pub name: Vec<u16>,
+    pub name: PotentialUtf16,
     pub text: String,
-    pub region: [u8; 3],
-    pub zone: ZoneData,
+    pub region: Region,
+    pub item: Item,
 }
 
 /// The zones of a bundle, by rising names.
@@ -47,7 +63,7 @@ impl Model for ZoneInfo64 {
 pub struct Zone<'a> {
     info: &'a ZoneInfo64,
     place: u16,
-    ghost in_place: { IsTrue (is_some (zone_at info.now place)) },
+    ghost in_place: { IsTrue (is_some (resolved_in info.now (slice_get info.now place))) },
 }
 
 impl ZoneInfo64 {
@@ -64,8 +80,8 @@ impl ZoneInfo64 {
 
 impl ZoneInfo64 {
     ghost use Rattle.std.specs.Prelude.{IfSome, IfNone, IsSome, None};
-    ghost use Rattle.zoneinfo64.specs.NamedZone.{named};
-    ghost use Rattle.zoneinfo64.specs.ZoneView.{plain_zone};
+    ghost use Rattle.zoneinfo64.specs.NamedZone.{named, entry_named};
+    ghost use Rattle.zoneinfo64.specs.ZoneView.{entry_of, plain_zone};
 
     /// The zone of that name, an IANA identifier. Names are compared character by character, and since they rise they
     /// are searched by halving.
@@ -75,6 +91,7 @@ impl ZoneInfo64 {
         ensures none { IfNone result (named self.now iana.now ≡ None) }
         ensures zone { IfSome result
             (λ z. IsSome (plain_zone z) × (plain_zone z ≡ named self.now iana.now)) }
+        ensures entry { IfSome result (λ z. entry_of z ≡ entry_named self.now iana.now) }
     {
         match place_of(self.entries.as_slice(), iana) {
             Some(place) => Some(Zone {
@@ -113,20 +130,34 @@ fn place_of(entries: &[Named], iana: &str) -> Option<usize>
 impl<'a> Zone<'a> {
     ghost use Rattle.std.specs.Prelude.{◌↔◌, ℤ, ◌-ℤ◌, IfSome};
     ghost use Rattle.civil.specs.Calendar.{day_of, wall_second};
-    ghost use Rattle.zoneinfo64.specs.Laws.{IsLawful, IsFixed};
+    ghost use Rattle.zoneinfo64.specs.Laws.{IsFixed};
     ghost use Rattle.zoneinfo64.specs.Timeline.{offset_at};
     ghost use Rattle.zoneinfo64.specs.Placement.{IsPlaced};
     ghost use Rattle.zoneinfo64.specs.Lookups.{AnswersWall, IsClock};
-    ghost use Rattle.zoneinfo64.specs.ZoneView.{plain_zone};
+    ghost use Rattle.zoneinfo64.specs.ZoneView.{entry_of, plain_zone};
+
+    /// Its name, an alias's own.
+    pub fn name(&self) -> &'a PotentialUtf16
+        ensures { IfSome (entry_of self.now) (λ e. result.now ≡ e.name) }
+    {
+        &entry_at(self.info, self.place).name
+    }
+
+    /// Its region, an alias's own.
+    pub fn region(&self) -> Region
+        ensures { IfSome (entry_of self.now) (λ e. result ≡ e.region) }
+    {
+        entry_at(self.info, self.place).region
+    }
 
     /// The offset in force at a second counted from 1970-01-01 00:00:00 UTC, which may be any `i64`: in seconds east of
     /// UTC, and whether it is one of daylight time.
     ///
-    /// In a lawful zone it is that of the last entry of the zone's timeline that is not after the second, or the initial
-    /// one before all entries (ICU `zoneinfo64` resources). In another zone some offset is answered. Takes no memory.
+    /// So far a zone with transitions or a rule answers its initial offset, and nothing is promised there. Takes no
+    /// memory.
     pub fn for_timestamp(&self, seconds_since_epoch: i64) -> Offset
         ensures { IfSome (plain_zone self.now)
-            (λ z. IsLawful z → result ≡ offset_at z seconds_since_epoch) }
+            (λ z. IsFixed z → result ≡ offset_at z seconds_since_epoch) }
     {
         // without entries one offset holds at all seconds
         let _ = seconds_since_epoch;
@@ -135,10 +166,8 @@ impl<'a> Zone<'a> {
 
     /// The offsets of a wall time of the proleptic Gregorian calendar, which has a year 0; months and days count from 1.
     ///
-    /// In a lawful zone (ICU `zoneinfo64` resources) this is `Single` with the offset at the one second that shows the
-    /// wall time, `Ambiguous` where two seconds show it, around a transition that puts the clock back, and `None` where
-    /// no second does, since a transition puts the clock forward over it. In another zone some offsets are answered.
-    /// Takes no memory.
+    /// In a zone of one offset this is `Single` with it. So far a zone with transitions or a rule answers its initial
+    /// offset, and nothing is promised there. Takes no memory.
     pub fn for_date_time(
         &self,
         year: i32,
@@ -150,7 +179,7 @@ impl<'a> Zone<'a> {
     ) -> PossibleOffset
         requires { IsClock year month day hour minute second }
         ensures { IfSome (plain_zone self.now)
-            (λ z. IsLawful z → AnswersWall z (wall_second (day_of year month day) hour minute second) result) }
+            (λ z. IsFixed z → AnswersWall z (wall_second (day_of year month day) hour minute second) result) }
     {
         // and so one second shows each wall second
         let _ = (year, month, day, hour, minute, second);
@@ -164,7 +193,14 @@ impl<'a> Zone<'a> {
         ensures placed { IsTrue result
             → IfSome (plain_zone self.now) (λ z. (w t : ℤ) → IsPlaced z w (w -ℤ (offset_at z t).offset)) }
     {
-        is_small(data_of(self.info, self.place).initial.offset)
+        let data = data_of(self.info, self.place);
+        if !data.table.as_slice().is_empty() {
+            return false;
+        }
+        if data.rule.is_some() {
+            return false;
+        }
+        is_small(data.initial.offset)
     }
 }
 
@@ -179,16 +215,27 @@ fn is_small(offset: UtcOffset) -> bool
     -86_400 < seconds && seconds < 86_400
 }
 
-ghost use Rattle.zoneinfo64.specs.ZoneList.{plain_data};
+ghost use Rattle.zoneinfo64.specs.ZoneList.{plain_data, named_of};
 ghost use Rattle.std.specs.Prelude.{Some};
 
-/// The data of the zone at a place.
-fn data_of(info: &ZoneInfo64, place: u16) -> &ZoneData
-    requires { IsTrue (is_some (zone_at info.now place)) }
-    ensures { zone_at info.now place ≡ Some (plain_data result.now) }
+/// The entry at a place.
+fn entry_at(info: &ZoneInfo64, place: u16) -> &Named
+    requires { IsTrue (is_some (resolved_in info.now (slice_get info.now place))) }
+    ensures { slice_get info.now place ≡ Some (named_of result.now) }
 {
-    &info.entries[place as usize].zone
+    &info.entries[place as usize]
 }
 
-#[cfg(test)]
-mod tests;
+/// The data of the zone at a place, an alias resolved.
+fn data_of(info: &ZoneInfo64, place: u16) -> &ZoneData
+    requires { IsTrue (is_some (resolved_in info.now (slice_get info.now place))) }
+    ensures { resolved_in info.now (slice_get info.now place) ≡ Some (plain_data result.now) }
+{
+    match &entry_at(info, place).item {
+        Item::Zone(data) => data,
+        Item::Alias(target) => match &info.entries[*target as usize].item {
+            Item::Zone(data) => data,
+            Item::Alias(_) => unreachable!(),
+        },
+    }
+}

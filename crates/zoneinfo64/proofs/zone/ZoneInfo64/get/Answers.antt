@@ -1,4 +1,4 @@
-use Rattle.zoneinfo64.proofs.Names.{zone-found, zone-missing}
+use Rattle.zoneinfo64.proofs.Names.{zone-found, entry-found, zone-missing}
 use Rattle.zoneinfo64.proofs.zone.ZoneInfo64.get.Goals as goal
 
 pub invariant_of-result : goal.invariant_of-result
@@ -11,3 +11,7 @@ returns-in-Some-clause-zone c =
 
 pub returns-in-None-clause-none : goal.returns-in-None-clause-none
 returns-in-None-clause-none c = zone-missing _ _ _ _ c.self.invariant c.as_slice.ensures.value c.self.view_is c.in-None.ensures
+
+pub returns-in-Some-clause-entry : goal.returns-in-Some-clause-entry
+returns-in-Some-clause-entry c =
+    entry-found _ _ _ _ _ c.self.invariant c.as_slice.ensures.value c.self.view_is c.in-Some.ensures

@@ -1,0 +1,11 @@
+use Rattle.std.proofs.Common.{◌≡◌, drop}
+use Rattle.std.specs.Prelude.{map}
+use Rattle.resb.specs.Plan.{values_in}
+use Rattle.resb.specs.Writing.{any_bad, has_bad_key}
+use Rattle.resb.proofs.measures.+bad.Given as goal
+
+abbrev pub invariant-bad_key_in_items-loop-item : goal.invariant-bad_key_in_items-loop-item
+invariant-bad_key_in_items-loop-item l = any_bad (map has_bad_key (drop l.item-index l.items)) ≡ any_bad (map has_bad_key l.items)
+
+abbrev pub invariant-bad_key_in_values-loop-value : goal.invariant-bad_key_in_values-loop-value
+invariant-bad_key_in_values-loop-value l = any_bad (map has_bad_key (values_in (drop l.value-index l.entries))) ≡ any_bad (map has_bad_key (values_in l.entries))

@@ -1,0 +1,29 @@
+-- What the definitions of words and trees keep.
+use Rattle.std.specs.Prelude.{◌≡◌, ℕ, Bool, true, false, Some, ◌&&◌, nat_lt, List, [], ◌∷◌, map}
+use Rattle.resb.specs.declared.resource.Resource.{Resource, fold-Resource}
+use Rattle.resb.specs.declared.resource.Resource.TheOpen.{Resource-F}
+use Rattle.resb.specs.Header.{tree_of}
+use Rattle.resb.specs.Writing.{written, has_bad_key, is_too_large}
+
+abbrev pub all_below : ℕ → List ℕ → Bool
+all_below n [] = true
+all_below n (x ∷ xs) = nat_lt x n && all_below n xs
+
+abbrev pub all_true : List Bool → Bool
+all_true [] = true
+all_true (b ∷ bs) = b && all_true bs
+
+abbrev pub layer_typed : Resource-F Bool → Bool
+layer_typed (Resource-F.Text units) = all_below 65536 units
+layer_typed (Resource-F.Bytes bytes) = all_below 256 bytes
+layer_typed (Resource-F.Table entries) = all_true (map (λ (e : List ℕ × Bool). e.1) entries)
+layer_typed (Resource-F.Array items) = all_true items
+layer_typed _ = true
+
+-- each unit of a text has 16 bits, and each of a list of bytes has 8
+unfoldable pub has_typed_parts : Resource → Bool
+has_typed_parts = fold-Resource Bool layer_typed
+
+-- a tree is denoted by the words that are written for it, where it can be written
+abbrev pub WordsDenote : Type 0
+WordsDenote = (t : Resource) → has_typed_parts t ≡ true → has_bad_key t ≡ false → is_too_large t ≡ false → tree_of (written t) ≡ Some t

@@ -1,0 +1,19 @@
+-- The pool of keys: where each begins.
+use Rattle.std.specs.Prelude.{ℕ, ◌+◌, List, length, map, Option, Some, None, if◌then◌else◌}
+use Rattle.std.specs.Borrow.{Bor}
+use Rattle.resb.specs.Keys.{stands_in}
+use Rattle.resb.specs.Writing.{key_place, pool_bytes}
+
+-- borrowed keys, as the keys
+abbrev pub bare : List (Bor (List ℕ)) → List (List ℕ)
+bare keys = map (λ k. k.now) keys
+
+-- the byte behind the pool
+abbrev pub pool_end : List (List ℕ) → ℕ
+pool_end keys = 32 + length (pool_bytes keys)
+
+abbrev pub place_of : List (List ℕ) → List ℕ → ℕ
+place_of keys = key_place keys 32
+
+abbrev pub place_told : List (List ℕ) → List ℕ → Option ℕ
+place_told keys key = if stands_in key keys then Some (place_of keys key) else None

@@ -1,0 +1,240 @@
+use super::*;
+use crate::tests::{ONE_ZONE, TEST_PLUS2};
+use sqlite_items::Items;
+use std::alloc::{AllocError, Global};
+use std::test::Fail;
+
+fn text(alloc: Global, units: &[u16]) -> Result<Resource, AllocError> {
+    Ok(Resource::Text(Items::from_slice(alloc, units)?))
+}
+
+/// An array of one item.
+fn array(alloc: Global, item: Resource) -> Result<Resource, AllocError> {
+    let mut items = Items::new(alloc);
+    items.push(item)?;
+    Ok(Resource::Array(items))
+}
+
+/// A table with these keys and the integers 5, 6, 7 and so on.
+fn table(alloc: Global, keys: &[&[u8]]) -> Result<Resource, AllocError> {
+    let mut entries = Items::new(alloc);
+    let mut value = 5u32;
+    for key in keys {
+        entries.push((Items::from_slice(alloc, *key)?, Resource::Integer(value)))?;
+        value = value.saturating_add(1);
+    }
+    Ok(Resource::Table(entries))
+}
+
+/// The tree of a bundle of one zone.
+fn one_zone(alloc: Global) -> Result<Resource, AllocError> {
+    let mut zone = Items::new(alloc);
+    let offsets = Resource::Integers(Items::from_slice(alloc, &[7200, 0])?);
+    zone.push((Items::from_slice(alloc, b"typeOffsets")?, offsets))?;
+    let zones = array(alloc, Resource::Table(zone))?;
+    let names = array(alloc, text(alloc, TEST_PLUS2.as_slice())?)?;
+    let regions = array(alloc, text(alloc, &[48, 48, 49])?)?;
+    let mut root = Items::new(alloc);
+    root.push((Items::from_slice(alloc, b"Zones")?, zones))?;
+    root.push((Items::from_slice(alloc, b"Names")?, names))?;
+    root.push((Items::from_slice(alloc, b"Rules")?, table(alloc, &[])?))?;
+    root.push((Items::from_slice(alloc, b"Regions")?, regions))?;
+    Ok(Resource::Table(root))
+}
+
+/// An empty array inside so many arrays.
+fn nested(alloc: Global, arrays: u8) -> Result<Resource, AllocError> {
+    let mut tree = Resource::Array(Items::new(alloc));
+    for _ in 0..arrays {
+        tree = array(alloc, tree)?;
+    }
+    Ok(tree)
+}
+
+fn is_refused(answer: Result<Vec<u32>, ResbError>, why: ResbError) -> bool {
+    match answer {
+        Ok(_) => false,
+        Err(error) => error == why,
+    }
+}
+
+/// Whether the words behind the header are these.
+fn has_body(words: &[u32], body: &[u32]) -> bool {
+    words.len() > 6 && &words[..6] == &ONE_ZONE[..6] && &words[6..] == body
+}
+
+#[test]
+fn writes_one_zone(rt: HostRuntime) -> Result<(), Fail> {
+    let alloc = rt.alloc();
+    let words = write(alloc, &one_zone(alloc)?)?;
+    assert_eq!(rt; words.as_slice(), ONE_ZONE.as_slice());
+    let tree = read(alloc, words.as_slice())?;
+    let again = write(alloc, &tree)?;
+    assert_eq!(rt; again.as_slice(), ONE_ZONE.as_slice());
+    Ok(())
+}
+
+#[test]
+fn refuses_bad_keys(rt: HostRuntime) -> Result<(), Fail> {
+    let alloc = rt.alloc();
+    let twice = table(alloc, &[b"a", b"b", b"a"])?;
+    assert!(rt; is_refused(write(alloc, &twice), ResbError::BadKey));
+    let zero = table(alloc, &[&[97, 0]])?;
+    assert!(rt; is_refused(write(alloc, &zero), ResbError::BadKey));
+    let high = table(alloc, &[&[97, 128]])?;
+    assert!(rt; is_refused(write(alloc, &high), ResbError::BadKey));
+    assert!(rt; write(alloc, &table(alloc, &[&[1, 127], b""])?).is_ok());
+    // a bad key nine levels deep
+    let mut tree = table(alloc, &[&[128]])?;
+    for _ in 0..8 {
+        tree = array(alloc, tree)?;
+    }
+    assert!(rt; is_refused(write(alloc, &tree), ResbError::BadKey));
+    Ok(())
+}
+
+#[test]
+fn writes_eight_levels(rt: HostRuntime) -> Result<(), Fail> {
+    let alloc = rt.alloc();
+    assert!(rt; write(alloc, &nested(alloc, 7)?).is_ok());
+    assert!(rt; is_refused(write(alloc, &nested(alloc, 8)?), ResbError::TooLarge));
+    Ok(())
+}
+
+#[test]
+fn writes_28_bits(rt: HostRuntime) -> Result<(), Fail> {
+    let alloc = rt.alloc();
+    let words = write(alloc, &Resource::Integer(268_435_455))?;
+    assert!(rt; has_body(words.as_slice(), &[0x7fff_ffff, 7, 8, 8, 8, 0, 0, 8]));
+    assert!(rt;
+        is_refused(
+            write(alloc, &Resource::Integer(268_435_456)),
+            ResbError::TooLarge
+        )
+    );
+    Ok(())
+}
+
+#[test]
+fn writes_no_words_of_empty_resources(rt: HostRuntime) -> Result<(), Fail> {
+    let alloc = rt.alloc();
+    let words = write(alloc, &Resource::Text(Items::new(alloc)))?;
+    assert!(rt; has_body(words.as_slice(), &[0, 7, 8, 8, 8, 0, 0, 8]));
+    let words = write(alloc, &Resource::Bytes(Items::new(alloc)))?;
+    assert!(rt; has_body(words.as_slice(), &[0x1000_0000, 7, 8, 8, 8, 0, 0, 8]));
+    let words = write(alloc, &Resource::Table(Items::new(alloc)))?;
+    assert!(rt; has_body(words.as_slice(), &[0x2000_0000, 7, 8, 8, 8, 0, 0, 8]));
+    let words = write(alloc, &Resource::Array(Items::new(alloc)))?;
+    assert!(rt; has_body(words.as_slice(), &[0x8000_0000, 7, 8, 8, 8, 0, 0, 8]));
+    let words = write(alloc, &Resource::Integers(Items::new(alloc)))?;
+    assert!(rt; has_body(words.as_slice(), &[0xe000_0000, 7, 8, 8, 8, 0, 0, 8]));
+    Ok(())
+}
+
+#[test]
+fn writes_texts_and_bytes(rt: HostRuntime) -> Result<(), Fail> {
+    let alloc = rt.alloc();
+    // an even count of units wants a word for the zero unit
+    let words = write(alloc, &text(alloc, &[72, 105])?)?;
+    assert!(rt;
+        has_body(
+            words.as_slice(),
+            &[8, 7, 8, 11, 11, 0, 0, 8, 2, 0x0069_0048, 0]
+        )
+    );
+    let words = write(alloc, &text(alloc, &[48, 48, 49])?)?;
+    assert!(rt;
+        has_body(
+            words.as_slice(),
+            &[8, 7, 8, 11, 11, 0, 0, 8, 3, 0x0030_0030, 0x31]
+        )
+    );
+    let bytes = Resource::Bytes(Items::from_slice(alloc, &[1, 2, 3, 4, 5])?);
+    let words = write(alloc, &bytes)?;
+    assert!(rt;
+        has_body(
+            words.as_slice(),
+            &[0x1000_0008, 7, 8, 11, 11, 0, 0, 8, 5, 0x0403_0201, 5]
+        )
+    );
+    Ok(())
+}
+
+#[test]
+fn writes_tables(rt: HostRuntime) -> Result<(), Fail> {
+    let alloc = rt.alloc();
+    let words = write(alloc, &table(alloc, &[b"a"])?)?;
+    let one = [
+        0x2000_0009,
+        7,
+        9,
+        11,
+        11,
+        1,
+        0,
+        9,
+        0x61,
+        0x0020_0001,
+        0x7000_0005,
+    ];
+    assert!(rt; has_body(words.as_slice(), one.as_slice()));
+    // with two entries a unit of padding follows the places
+    let words = write(alloc, &table(alloc, &[b"a", b"b"])?)?;
+    let two = [
+        0x2000_0009,
+        7,
+        9,
+        13,
+        13,
+        2,
+        0,
+        9,
+        0x0062_0061,
+        0x0020_0002,
+        0x22,
+        0x7000_0005,
+        0x7000_0006,
+    ];
+    assert!(rt; has_body(words.as_slice(), two.as_slice()));
+    // a key of two tables stands once
+    let mut items = Items::new(alloc);
+    items.push(table(alloc, &[b"a"])?)?;
+    items.push(table(alloc, &[b"a"])?)?;
+    let words = write(alloc, &Resource::Array(items))?;
+    let both = [
+        0x8000_000d,
+        7,
+        9,
+        16,
+        16,
+        1,
+        0,
+        9,
+        0x61,
+        0x0020_0001,
+        0x7000_0005,
+        0x0020_0001,
+        0x7000_0005,
+        2,
+        0x2000_0009,
+        0x2000_000b,
+    ];
+    assert!(rt; has_body(words.as_slice(), both.as_slice()));
+    Ok(())
+}
+
+#[test]
+fn prints_errors(rt: HostRuntime) -> Result<(), Fail> {
+    let alloc = rt.alloc();
+    let errors = [
+        (ResbError::Memory, "memory could not be found"),
+        (ResbError::NoTree, "no resource tree"),
+        (ResbError::TooLarge, "tree too large"),
+        (ResbError::BadKey, "bad key"),
+    ];
+    for (error, told) in errors {
+        let printed = format!(in alloc; "{error}")?;
+        assert_eq!(rt; printed.as_str(), told);
+    }
+    Ok(())
+}

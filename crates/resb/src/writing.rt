@@ -1,0 +1,130 @@
+ghost use Rattle.std.specs.Prelude.{Vec, ℕ, ◌≡◌, ◌+◌, ◌++◌, ◌∷◌, ◌≤◌, [], length, IfOk, OnOk, IfErr, Some};
+ghost use Rattle.std.specs.Global.{Global};
+ghost use Rattle.resb.specs.Pool.{bare};
+ghost use Rattle.resb.specs.Plan.{Suits, Refuses};
+ghost use Rattle.resb.specs.Header.{tree_of};
+ghost use Rattle.resb.specs.Writing.{pack_bytes, pool_bytes, key_pool, header, written, writing, Writes};
+
+use crate::error::ResbError;
+use crate::key_pool::key_pool;
+use crate::laying::{MOST_WORDS, lay};
+use crate::measures::{has_bad_key, is_deeper, most_entries, weigh};
+use crate::packing::push_bytes;
+use crate::pool::KeyPool;
+use crate::resource::Resource;
+use crate::typed::parts_typed;
+use std::alloc::{AllocError, Global};
+
+/// How deep a tree may be.
+const DEPTH: u8 = 8;
+
+/// The header, of 24 bytes.
+const HEADER: [u32; 6] = [0x27DA_0018, 0x14, 0x2_0000, 0x4273_6552, 2, 0];
+
+/// The keys of a pool, each with its zero byte.
+fn pool_bytes(alloc: Global, keys: &[&[u8]]) -> Result<Vec<u8>, AllocError>
+    ensures { IfOk result (λ bytes. bytes.items ≡ pool_bytes (bare keys.now)) }
+{
+    let mut bytes = Vec::new(alloc);
+    for key in keys {
+        bytes.extend_from_slice(*key)?;
+        bytes.push(0)?;
+    }
+    Ok(bytes)
+}
+
+/// The words of the keys of a pool.
+fn key_words(alloc: Global, keys: &[&[u8]]) -> Result<Vec<u32>, AllocError>
+    ensures { IfOk result (λ words. words.items ≡ pack_bytes (pool_bytes (bare keys.now))) }
+{
+    let bytes = pool_bytes(alloc, keys)?;
+    let mut words = Vec::new(alloc);
+    push_bytes(&mut words, bytes.as_slice())?;
+    Ok(words)
+}
+
+/// The root item and the index.
+fn front_words(root: u32, keys_end: usize, end: usize, most: usize) -> [u32; 8]
+    requires keys { keys_end ≤ 1048570 }
+    requires end { end ≤ 1048570 }
+    requires most { most ≤ 65535 }
+    ensures { result ≡ root ∷ 7 ∷ keys_end ∷ end ∷ end ∷ most ∷ 0 ∷ keys_end ∷ [] }
+{
+    let keys_end = keys_end as u32;
+    let end = end as u32;
+    [root, 7, keys_end, end, end, most as u32, 0, keys_end]
+}
+
+/// The words of a bundle: the header, the root item with the index, the keys and the resources.
+fn joined(
+    alloc: Global,
+    front: &[u32],
+    keys: &[u32],
+    resources: &[u32],
+) -> Result<Vec<u32>, AllocError>
+    ensures { IfOk result (λ words. words.items ≡ header ++ (front.now ++ keys.now ++ resources.now)) }
+{
+    let mut words = Vec::from_slice(alloc, HEADER.as_slice())?;
+    words.extend_from_slice(front)?;
+    words.extend_from_slice(keys)?;
+    words.extend_from_slice(resources)?;
+    Ok(words)
+}
+
+/// The words of a tree, whose keys the pool has.
+fn words_of(alloc: Global, tree: &Resource, pool: &KeyPool<'_>) -> Result<Vec<u32>, ResbError>
+    requires { bare pool.now.keys.items ≡ key_pool tree.now }
+    ensures words { IfOk result (λ words. words.items ≡ written tree.now) }
+    ensures suits { OnOk result (Suits tree.now) }
+    ensures refused { IfErr result (Refuses (Suits tree.now)) }
+{
+    let keys_end = 8 + (pool.end - 29) / 4;
+    if keys_end > MOST_WORDS {
+        return Err(ResbError::TooLarge);
+    }
+    let mut resources = Vec::new(alloc);
+    let root = lay(alloc, tree, pool, keys_end, &mut resources)?;
+    let end = keys_end + resources.len();
+    if weigh(tree, 8 * (6 + end)).is_none() {
+        return Err(ResbError::TooLarge);
+    }
+    let keys = key_words(alloc, pool.keys.as_slice())?;
+    let front = front_words(root, keys_end, end, most_entries(tree));
+    Ok(joined(
+        alloc,
+        front.as_slice(),
+        keys.as_slice(),
+        resources.as_slice(),
+    )?)
+}
+
+// The words of a tree, or why there are none.
+fn planned_words(alloc: Global, tree: &Resource) -> Result<Vec<u32>, ResbError>
+    ensures words { Writes (λ (v : Vec ℕ Global). v.items) result (writing tree.now) }
+{
+    if has_bad_key(alloc, tree)? {
+        return Err(ResbError::BadKey);
+    }
+    if is_deeper(tree, DEPTH) {
+        return Err(ResbError::TooLarge);
+    }
+    let pool = key_pool(alloc, tree)?;
+    words_of(alloc, tree, &pool)
+}
+
+#[tactic(auto, using(crate::proofs::Denotes::writing_denotes))]
+/// The words of a bundle (ICU resource bundle, format 2) that `read` reads back to the tree: each key once, then the
+/// resources, children before their parent.
+///
+/// `BadKey` where a key has a byte outside 1 to 127 or stands twice in one table. `TooLarge` where no key is bad and the
+/// bundle would have over 1,048,576 words, the tree is deeper than 8, a key begins past byte 65,535 of the body, a table has
+/// over 65,535 entries, an integer passes 268,435,455, or the tree weighs over 8 times the bundle's words (1 for each
+/// resource, and 1 for each of its units, bytes, integers or key bytes). `Memory` where memory runs out.
+pub fn write(alloc: Global, tree: &Resource) -> Result<Vec<u32>, ResbError>
+    ensures words { Writes (λ (v : Vec ℕ Global). v.items) result (writing tree.now) }
+    ensures denoted { IfOk result (λ (v : Vec ℕ Global). tree_of v.items ≡ Some tree.now) }
+{
+    parts_typed(tree);
+    let words = planned_words(alloc, tree)?;
+    Ok(words)
+}

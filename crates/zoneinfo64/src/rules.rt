@@ -1,0 +1,61 @@
+//! The rules of a bundle by their keys.
+ghost use Rattle.std.specs.Prelude.{◌≡◌, IfOk, option_map};
+ghost use Rattle.std.specs.Option.{option_copied};
+ghost use Rattle.resb.specs.Fields.{integers_in};
+ghost use Rattle.zoneinfo64.specs.Bundle.{rules_of, raw_rule};
+ghost use Rattle.zoneinfo64.specs.RuleView.{rule_for, raw_of};
+ghost use Rattle.zoneinfo64.specs.Steps.{Reads, ReadsRules, rule_in};
+
+use crate::error::BinaryDeserializerError;
+use crate::rule::{RuleDates, dates};
+use resb::Resource;
+use sqlite_items::Items;
+use std::alloc::{AllocError, Global};
+use std::collections::BTreeMap;
+
+/// The rules by their keys, whose bytes are compared with the units of a text.
+pub type Rules = BTreeMap<Vec<u16>, RuleDates>;
+
+/// A key as units.
+fn units(alloc: Global, key: &[u8]) -> Result<Vec<u16>, AllocError>
+    ensures { IfOk result (λ v. v.items ≡ key.now) }
+{
+    let mut units = Vec::with_capacity(alloc, key.len())?;
+    for byte in key {
+        units.push(u16::from(*byte))?;
+    }
+    Ok(units)
+}
+
+/// The rule of a list of eleven integers.
+#[tactic(auto, unfolding(crate::specs::Steps::rule_in))]
+fn rule(value: &Resource) -> Result<RuleDates, BinaryDeserializerError>
+    ensures { Reads raw_of result (rule_in value.now) }
+{
+    let Some(words) = value.integers() else {
+        return Err(BinaryDeserializerError::Rules);
+    };
+    match dates(words) {
+        Some(dates) => Ok(dates),
+        None => Err(BinaryDeserializerError::Rules),
+    }
+}
+
+/// All rules of a bundle. Of rules with one key the first counts, so they are put in from the last on.
+pub fn rules(
+    alloc: Global,
+    entries: &[(Items<u8>, Resource)],
+) -> Result<Rules, BinaryDeserializerError>
+    ensures { ReadsRules result (rules_of entries.now) }
+{
+    let mut rules = BTreeMap::new(alloc);
+    let mut at = entries.len();
+    while at > 0 {
+        at -= 1;
+        let (key, value) = &entries[at];
+        let dates = rule(value)?;
+        let key = units(alloc, key.as_slice())?;
+        rules.insert(key, dates)?;
+    }
+    Ok(rules)
+}
