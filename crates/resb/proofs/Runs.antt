@@ -37,6 +37,11 @@ run_more at from i found x le e f =
     let j : from + (i - from) ≡ i = omega arith in
     rw (k, run-push at from (i - from), j, e, f) refl
 
+-- the same, of the values before it and with it
+pub run_step : (at : ℕ → ℕ) (from i next : ℕ) (found more : List ℕ) (x : ℕ) → from ≤ i → next ≡ i + 1 → found ≡ run at from (i - from) → more ≡ found ++ x ∷ [] → x ≡ at i
+    → more ≡ run at from (next - from)
+run_step at from i next found more x le n e m f = m ∙ run_more at from i found x le e f ∙ ap (λ k. run at from (k - from)) (sym n)
+
 pub run_shift : (at : ℕ → ℕ) (base from count : ℕ) → run at (base + from) count ≡ run (λ k. at (base + k)) from count
 run_shift at base from zero = refl
 run_shift at base from (suc count) =

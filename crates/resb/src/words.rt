@@ -9,13 +9,7 @@ pub fn byte_at(words: &[u32], at: usize) -> u8
     requires { at < 4 * length words.now }
     ensures { result ≡ byte_in words.now at }
 {
-    let word = words[at / 4];
-    match at % 4 {
-        0 => (word % 256) as u8,
-        1 => (word / 256 % 256) as u8,
-        2 => (word / 65_536 % 256) as u8,
-        _ => (word / 16_777_216) as u8,
-    }
+    ((words[at / 4] >> (8 * (at % 4) as u32)) % 256) as u8
 }
 
 /// The 16-bit unit at a place, the low unit of a word first.
@@ -55,8 +49,19 @@ pub fn units_from(
     ensures { IfOk result (λ items. items ≡ run (unit_in words.now) from count) }
 {
     let mut found = Vec::with_capacity(alloc, count)?;
-    for at in from..from + count {
-        found.push(unit_at(words, at))?;
+    let end = from + count;
+    let mut at = from;
+    while at < end {
+        if at % 2 == 0 && end - at >= 2 {
+            // a whole word
+            let first = at / 2 * 2;
+            found.push(unit_at(words, first))?;
+            found.push(unit_at(words, first + 1))?;
+            at += 2;
+        } else {
+            found.push(unit_at(words, at))?;
+            at += 1;
+        }
     }
     Ok(Items::from_vec(found))
 }
@@ -72,8 +77,21 @@ pub fn bytes_from(
     ensures { IfOk result (λ items. items ≡ run (byte_in words.now) from count) }
 {
     let mut found = Vec::with_capacity(alloc, count)?;
-    for at in from..from + count {
-        found.push(byte_at(words, at))?;
+    let end = from + count;
+    let mut at = from;
+    while at < end {
+        if at % 4 == 0 && end - at >= 4 {
+            // a whole word
+            let first = at / 4 * 4;
+            found.push(byte_at(words, first))?;
+            found.push(byte_at(words, first + 1))?;
+            found.push(byte_at(words, first + 2))?;
+            found.push(byte_at(words, first + 3))?;
+            at += 4;
+        } else {
+            found.push(byte_at(words, at))?;
+            at += 1;
+        }
     }
     Ok(Items::from_vec(found))
 }

@@ -1,5 +1,5 @@
 -- How a bundle is read, step by step.
-use Rattle.std.specs.Prelude.{ℕ, ◌==◌, nat_le, nat_lt, Bool, ◌&&◌, if◌then◌else◌, List, [], ◌∷◌, ◌++◌, length, map, slice_get, Option, Some, None, Result, Ok, Err, ℤ, pos, ◌+ℤ◌, ◌*ℤ◌, int_lt, codes, ◌≡◌}
+use Rattle.std.specs.Prelude.{ℕ, ◌==◌, nat_le, nat_lt, Bool, ◌&&◌, if◌then◌else◌, List, [], ◌∷◌, ◌++◌, length, map, Option, Some, None, Result, Ok, Err, ℤ, pos, ◌+ℤ◌, ◌*ℤ◌, int_lt, codes, ◌≡◌}
 use Rattle.std.specs.Ordering.{nat_cmp, is_lt}
 use Rattle.std.specs.Cmp.Lexicographic.{slice_cmp}
 use Rattle.std.specs.Prelude.{Vec}
@@ -121,12 +121,6 @@ filled (second ∷ seconds) = Some (second ∷ seconds)
 -- a transition at a second to a pair
 abbrev pub transition_to : ℤ × ℤ → ℤ → Transition
 transition_to pair second = record { since = second; offset = pair.0 +ℤ pair.1; rule_applies = int_lt (pos 0) pair.1 }
-
--- and to the pair of a number
-abbrev pub transition_at : List (ℤ × ℤ) → ℕ → ℤ → Option Transition
-transition_at pairs n second = do
-  pair ← slice_get pairs n
-  Some (transition_to pair second)
 
 -- ---- a zone
 

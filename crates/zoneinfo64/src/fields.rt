@@ -3,7 +3,7 @@ ghost use Rattle.std.specs.Prelude.{◌≡◌, ℕ, ◌+ℤ◌, ◌<◌, ◌∷�
 ghost use Rattle.resb.specs.Fields.{field_in, integers_in};
 ghost use Rattle.zoneinfo64.specs.Bundle.{as_i32, fits_i32, pair_offset, sums_fit, table_of, region_byte, region_of_chars};
 ghost use Rattle.zoneinfo64.specs.RuleView.{rule_for};
-ghost use Rattle.zoneinfo64.specs.Steps.{Reads, pair_of, offset_steps, type_offsets, initial_of, integers_at, bytes_at, wide, wide_second, wide_at, seconds_of, filled, transition_to, transition_at, used_rule, zone_rule, zone_steps};
+ghost use Rattle.zoneinfo64.specs.Steps.{Reads, pair_of, offset_steps, type_offsets, initial_of, integers_at, bytes_at, wide, wide_second, wide_at, seconds_of, filled, transition_to, used_rule, zone_rule, zone_steps};
 ghost use Rattle.zoneinfo64.specs.ZoneList.{plain_data};
 
 use crate::error::BinaryDeserializerError;
@@ -222,17 +222,6 @@ fn transition_to(pair: (i32, i32), second: i64) -> Transition
     }
 }
 
-/// The transition at a second to the pair of that number.
-fn transition(pairs: &[(i32, i32)], number: u8, second: i64) -> Option<Transition>
-    requires { IsTrue (sums_fit pairs.now) }
-    ensures { result ≡ transition_at pairs.now number second }
-{
-    match pair_at(pairs, number) {
-        Some(pair) => Some(transition_to(pair, second)),
-        None => None,
-    }
-}
-
 /// The table of a zone: the transitions at these seconds to the pairs of these numbers.
 fn table(
     alloc: Global,
@@ -256,10 +245,10 @@ fn table(
         let Some((second, others)) = next_second(seconds.early, seconds.middle, seconds.late) else {
             return Err(BinaryDeserializerError::Rules);
         };
-        let Some(entry) = transition(pairs, *number, second) else {
+        let Some(pair) = pair_at(pairs, *number) else {
             return Err(BinaryDeserializerError::Rules);
         };
-        table.push(entry)?;
+        table.push(transition_to(pair, second))?;
         seconds = others;
         rest = more;
     }

@@ -1,6 +1,13 @@
-use Rattle.std.proofs.Common.{◌≡◌, ◌-◌}
+use Rattle.std.proofs.Common.{◌≡◌, ◌≤◌, ◌-◌}
 use Rattle.resb.specs.Words.{run, byte_in}
 use Rattle.resb.proofs.words.bytes_from.Given as goal
 
 abbrev pub invariant-loop-at : goal.invariant-loop-at
-invariant-loop-at l = l.found.items ≡ run (byte_in l.words) l.from (l.at - l.from)
+invariant-loop-at l = record {
+  read : l.found.items ≡ run (byte_in l.words) l.from (l.at - l.from);
+  from : l.from ≤ l.at;
+  end : l.at ≤ l.end;
+}
+
+abbrev pub decreases-loop-at : goal.decreases-loop-at
+decreases-loop-at l = l.end - l.at

@@ -1,6 +1,0 @@
-use Rattle.std.proofs.Common.{sym}
-use Rattle.zoneinfo64.proofs.Tables.{sums_fit-at}
-use Rattle.zoneinfo64.proofs.fields.transition.Goals as goal
-
-pub transition_to-requires : goal.transition_to-requires
-transition_to-requires c = sums_fit-at c.args.pairs.now c.args.number c.in-Some.pair c.requires (sym c.in-Some.ensures)
