@@ -1,8 +1,8 @@
 #!/usr/bin/env bash
 # Measures what it costs to read a bundle: instructions, also for each of its words, and peak memory. The bundles are the
 # one of the system's ICU, one of 20,000 zones, and two of a million words that are made to cost much, and are refused.
-# Each run has an empty input, and from its instructions those of a run with a bundle of 52 words are taken off, so nothing but
-# the reading of the bundle is counted. A tool that is missing is skipped.
+# Each run has an empty input. Its instructions are printed whole, which is what the wanted number is held against, and
+# without those of a run with a bundle of 52 words, which are mostly the program's start. A tool that is missing is skipped.
 # Ends with 1 where a run ends with another status than it has to.
 set -u
 top=$(cd "$(dirname "$0")/.." && pwd -P) || exit 1
@@ -62,16 +62,16 @@ measure() {
     echo "$name: $words words, status $status (wanted: $wanted), peak memory $(peak "$file")"
     [ "$status" -eq "$wanted" ] || failed=1
     command -v valgrind >/dev/null || return
-    count=$(($(instructions "$file") - start))
-    awk -v name="$name" -v count="$count" -v words="$words" -v limit="$limit" 'BEGIN {
+    count=$(instructions "$file")
+    awk -v name="$name" -v count="$count" -v start="$start" -v words="$words" -v limit="$limit" 'BEGIN {
         wanted = limit == "" ? "" : sprintf(" (wanted: at most %d)", limit)
-        printf "%s: %d instructions%s, %.1f a word\n", name, count, wanted, count / words
+        printf "%s: %d instructions%s, %d without the start, %.1f a word\n", name, count, wanted, count - start, count / words
     }'
 }
 
 if command -v valgrind >/dev/null; then
     start=$(instructions "$top/crates/saywhen/data/plus2.res")
-    echo "taken off each run: $start instructions"
+    echo "start: $start instructions"
 else
     echo "skipped: instructions, as valgrind is missing"
 fi
