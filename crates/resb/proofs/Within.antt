@@ -14,10 +14,11 @@ use Rattle.resb.specs.Weight.{weight, weights, entry_weights}
 use Rattle.resb.specs.Keys.{distinct}
 use Rattle.resb.specs.Tree.{◌>>=◌, when, Body, area_unit, counted, all_of, integers_at, text_at, bytes_at, short_text_at, array_at, short_array_at, key_at, entries_of, table_of, table16_at, table32_at, short_table_at, by_type, tree_at, denoted}
 use Rattle.resb.specs.Forms.{item_in, no_items, array_count, entry_in, no_entries, table_count}
-use Rattle.resb.specs.Reading.{spent, limited_by, integer_within, integers_within, text_within, bytes_within, short_span, short_text_within, all_within, array_within, key_stop, key_within, entries_within, table_within, typed_within, within, root_within}
+use Rattle.resb.specs.Reading.{spent, limited_by, integer_within, integers_within, text_within, bytes_within, short_span, short_text_within, all_within, array_within, key_within, entries_within, table_within, typed_within, within, root_within}
 use Rattle.resb.proofs.Weights.{weight-Integer, weight-Integers, weight-Array, weight-Text, weight-Bytes, weight-Table}
 use Rattle.resb.proofs.Runs.{length-run}
-use Rattle.resb.proofs.Spans.{short_text_span, key_span}
+use Rattle.resb.proofs.Spans.{short_text_span}
+use Rattle.resb.proofs.KeyReads.{key_is}
 
 bind_same : {A B : Type 0} (r : Option A) (f g : A → Option B) → ((x : A) → f x ≡ g x) → (r >>= f) ≡ (r >>= g)
 bind_same (Some x) f g h = h x
@@ -98,15 +99,6 @@ unfolding short_array_at
 short_array one b v = refl
 
 -- ---- tables
-
-key_limited : (limit place : ℕ) (byte : ℕ → ℕ) (stop : Option ℕ) → (stop >>= λ s. spent limit (s - place) >>= λ left. Some (run byte place (s - place), left)) ≡ limited_by length limit (stop >>= λ s. Some (run byte place (s - place)))
-key_limited limit place byte None = refl
-key_limited limit place byte (Some s) = rw (length-run byte place (s - place)) refl
-
-key_is : (b : Body) (place limit : ℕ) → key_within b place limit ≡ limited_by length limit (key_at b place)
-unfolding key_within
-key_is b place limit =
-    key_limited limit place (byte_in b.words) (key_stop (byte_in b.words) place (4 * b.keys_end - place)) ∙ ap (limited_by length limit) (sym (key_span b place))
 
 entry_all : (limit : ℕ) (name : List ℕ) (x : Resource) (es : List (List ℕ × Resource))
     → (limited_by length limit (Some name) >>= λ n. limited_by weight n.1 (Some x) >>= λ p. limited_by entry_weights p.1 (Some es) >>= λ q. Some ((n.0, p.0) ∷ q.0, q.1))

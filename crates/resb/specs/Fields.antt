@@ -1,5 +1,5 @@
 -- What a tree holds, as the field readers tell it.
-use Rattle.std.specs.Prelude.{ℕ, ◌%◌, List, [], ◌∷◌, Option, Some, None, if◌then◌else◌, nat_lt, ℤ, pos, ◌-ℤ◌, option_map}
+use Rattle.std.specs.Prelude.{◌≡◌, ℕ, true, slice_get, ◌%◌, List, [], ◌∷◌, Option, Some, None, if◌then◌else◌, nat_lt, ℤ, pos, ◌-ℤ◌, option_map}
 use Rattle.std.specs.Str.{bytes_eq}
 use Rattle.std.specs.Borrow.{Bor}
 use Rattle.resb.specs.declared.resource.Resource.{Resource, out-Resource}
@@ -61,6 +61,13 @@ signed_in t = option_map sign_extended (index_in t)
 abbrev pub first_with : List ℕ → List (List ℕ × Resource) → Option Resource
 first_with key [] = None
 first_with key (e ∷ es) = if bytes_eq e.0 key then Some e.1 else first_with key es
+
+-- an entry that stands at a place is the first with the key
+pub record StandsFirst (key : List ℕ) (at : ℕ) (entries : List (List ℕ × Resource)) : Type 0 where
+  pub entry : List ℕ × Resource
+  pub there : slice_get entries at ≡ Some entry
+  pub named : bytes_eq entry.0 key ≡ true
+  pub first : first_with key entries ≡ Some entry.1
 
 abbrev pub field_layer : List ℕ → Resource-F Resource → Option Resource
 field_layer key (Resource-F.Table entries) = first_with key entries

@@ -5,6 +5,7 @@ pub mod Tree
 pub mod Header
 pub mod Forms
 pub mod Reading
+pub mod Kept
 pub mod Fields
 pub mod Writing
 pub mod Pool

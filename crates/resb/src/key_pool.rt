@@ -5,6 +5,7 @@ ghost use Rattle.resb.specs.Plan.{told_values, added, pooled, Fills};
 ghost use Rattle.resb.specs.Writing.{keys_met, item_keys, entry_keys, pool_bytes, key_pool};
 
 use crate::error::ResbError;
+use crate::key::Key;
 use crate::pool::KeyPool;
 use crate::resource::Resource;
 use sqlite_items::Items;
@@ -23,7 +24,7 @@ fn meet_items<'a>(items: &'a [Resource], met: &mut Vec<&'a [u8]>) -> Result<(), 
 
 #[cycle(meet)]
 fn meet_entries<'a>(
-    entries: &'a [(Items<u8>, Resource)],
+    entries: &'a [(Key, Resource)],
     met: &mut Vec<&'a [u8]>,
 ) -> Result<(), AllocError>
     ensures { OnOk result (bare met.new.items ≡ bare met.old.items ++ entry_keys (told_values keys_met entries.now)) }

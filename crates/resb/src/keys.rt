@@ -6,10 +6,10 @@ ghost use Rattle.resb.specs.Reading.{Gives, key_stop, key_within};
 
 use crate::body::BodyWords;
 use crate::error::ResbError;
+use crate::key::Key;
 use crate::leaves::spend;
 use crate::resource::Resource;
 use crate::words::{byte_at, bytes_from};
-use sqlite_items::Items;
 use std::alloc::{AllocError, Global};
 use std::collections::BTreeSet;
 
@@ -42,17 +42,18 @@ pub fn key_of(
     body: BodyWords<'_>,
     place: usize,
     limit: usize,
-) -> Result<(Items<u8>, usize), ResbError>
+) -> Result<(Key, usize), ResbError>
     ensures { Gives (λ x. x) result (key_within (told body.entry) place limit) }
 {
     let stop = key_stop(body, place)?;
     let left = spend(limit, stop - place)?;
-    let key = bytes_from(alloc, body.words, place, stop - place)?;
+    let bytes = bytes_from(alloc, body.words, place, stop - place)?;
+    let key = Key::new(alloc, bytes)?;
     Ok((key, left))
 }
 
 /// Whether a key is that of one of the entries.
-fn stands_in(key: &[u8], entries: &[(Items<u8>, Resource)]) -> bool
+fn stands_in(key: &[u8], entries: &[(Key, Resource)]) -> bool
     ensures { result ≡ stands_in key.now (keys_in entries.now) }
 {
     for (name, _) in entries {
@@ -64,7 +65,7 @@ fn stands_in(key: &[u8], entries: &[(Items<u8>, Resource)]) -> bool
 }
 
 /// Whether no two of a few entries have equal keys.
-fn few_distinct(entries: &[(Items<u8>, Resource)]) -> bool
+fn few_distinct(entries: &[(Key, Resource)]) -> bool
     ensures { result ≡ distinct (keys_in entries.now) }
 {
     for at in 0..entries.len() {
@@ -76,7 +77,7 @@ fn few_distinct(entries: &[(Items<u8>, Resource)]) -> bool
 }
 
 /// The same, in the time of a sort.
-fn many_distinct(alloc: Global, entries: &[(Items<u8>, Resource)]) -> Result<bool, AllocError>
+fn many_distinct(alloc: Global, entries: &[(Key, Resource)]) -> Result<bool, AllocError>
     ensures { IfOk result (λ answer. answer ≡ distinct (keys_in entries.now)) }
 {
     let mut later = BTreeSet::new(alloc);
@@ -91,7 +92,7 @@ fn many_distinct(alloc: Global, entries: &[(Items<u8>, Resource)]) -> Result<boo
 }
 
 /// Whether no two entries have equal keys.
-pub fn are_distinct(alloc: Global, entries: &[(Items<u8>, Resource)]) -> Result<bool, AllocError>
+pub fn are_distinct(alloc: Global, entries: &[(Key, Resource)]) -> Result<bool, AllocError>
     ensures { IfOk result (λ answer. answer ≡ distinct (keys_in entries.now)) }
 {
     if entries.len() <= FEW {

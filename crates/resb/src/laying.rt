@@ -5,6 +5,7 @@ ghost use Rattle.resb.specs.Plan.{values_in, no_places, places_in, array_of, tab
 ghost use Rattle.resb.specs.Writing.{laid, lay_all, most_of, text_laid, bytes_laid, integers_laid};
 
 use crate::error::ResbError;
+use crate::key::Key;
 use crate::packing::{push_bytes, push_units};
 use crate::pool::KeyPool;
 use crate::resource::Resource;
@@ -104,7 +105,7 @@ fn lay_integers(values: &[u32], base: usize, out: &mut Vec<u32>) -> Result<u32, 
 /// The number of entries and the places of their keys, as units.
 fn key_units(
     alloc: Global,
-    entries: &[(Items<u8>, Resource)],
+    entries: &[(Key, Resource)],
     pool: &KeyPool<'_>,
 ) -> Result<Vec<u16>, ResbError>
     requires { length entries.now ≤ 65535 }
@@ -151,7 +152,7 @@ fn lay_items(
 #[cycle(lay)]
 fn lay_values(
     alloc: Global,
-    entries: &[(Items<u8>, Resource)],
+    entries: &[(Key, Resource)],
     pool: &KeyPool<'_>,
     base: usize,
     out: &mut Vec<u32>,
@@ -202,7 +203,7 @@ fn lay_array(
 #[cycle(lay)]
 fn lay_table(
     alloc: Global,
-    entries: &[(Items<u8>, Resource)],
+    entries: &[(Key, Resource)],
     pool: &KeyPool<'_>,
     base: usize,
     out: &mut Vec<u32>,

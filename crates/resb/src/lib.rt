@@ -5,6 +5,7 @@ mod body;
 mod error;
 mod forms;
 mod items;
+mod key;
 mod key_pool;
 mod keys;
 pub mod laws;
@@ -14,6 +15,7 @@ mod measures;
 mod packing;
 mod places;
 mod pool;
+mod reader;
 mod reading;
 mod resource;
 #[cfg(test)]
@@ -25,6 +27,7 @@ mod write_tests;
 mod writing;
 
 pub use error::ResbError;
+pub use key::Key;
 pub use reading::read;
 pub use resource::Resource;
 pub use writing::write;

@@ -4,6 +4,7 @@ ghost use Rattle.resb.specs.Plan.{values_in};
 ghost use Rattle.resb.specs.Weight.{weight, weights, entry_weights, spent_by};
 ghost use Rattle.resb.specs.Writing.{most_of, most_entries, depth, is_key, all_keys, any_bad, has_bad_key};
 
+use crate::key::Key;
 use crate::keys::are_distinct;
 use crate::resource::Resource;
 use sqlite_items::Items;
@@ -33,7 +34,7 @@ fn weigh_items(items: &[Resource], limit: usize) -> Option<usize>
 
 /// What the weight of keys and values leaves of a limit.
 #[cycle(weigh)]
-fn weigh_entries(entries: &[(Items<u8>, Resource)], limit: usize) -> Option<usize>
+fn weigh_entries(entries: &[(Key, Resource)], limit: usize) -> Option<usize>
     ensures { result ≡ spent_by limit (entry_weights entries.now) }
 {
     let mut left = limit;
@@ -75,7 +76,7 @@ fn items_deeper(items: &[Resource], levels: u8) -> bool
 
 /// Whether a value is deeper than so many levels.
 #[cycle(deep)]
-fn values_deeper(entries: &[(Items<u8>, Resource)], levels: u8) -> bool
+fn values_deeper(entries: &[(Key, Resource)], levels: u8) -> bool
     ensures { result ≡ nat_lt levels (most_of (map depth (values_in entries.now))) }
 {
     for (_, value) in entries {
@@ -114,7 +115,7 @@ fn most_in_items(items: &[Resource]) -> usize
 }
 
 #[cycle(most)]
-fn most_in_values(entries: &[(Items<u8>, Resource)]) -> usize
+fn most_in_values(entries: &[(Key, Resource)]) -> usize
     ensures { result ≡ most_of (map most_entries (values_in entries.now)) }
 {
     let mut most = 0;
@@ -153,7 +154,7 @@ fn is_key(bytes: &[u8]) -> bool
 }
 
 /// Whether each byte of each key is 1 to 127.
-fn all_keys(entries: &[(Items<u8>, Resource)]) -> bool
+fn all_keys(entries: &[(Key, Resource)]) -> bool
     ensures { result ≡ all_keys (keys_in entries.now) }
 {
     for (key, _) in entries {
@@ -177,7 +178,7 @@ fn bad_key_in_items(alloc: Global, items: &[Resource]) -> Result<bool, AllocErro
 }
 
 #[cycle(bad)]
-fn bad_key_in_values(alloc: Global, entries: &[(Items<u8>, Resource)]) -> Result<bool, AllocError>
+fn bad_key_in_values(alloc: Global, entries: &[(Key, Resource)]) -> Result<bool, AllocError>
     ensures { IfOk result (λ answer. answer ≡ any_bad (map has_bad_key (values_in entries.now))) }
 {
     for (_, value) in entries {

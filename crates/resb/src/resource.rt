@@ -1,7 +1,9 @@
-ghost use Rattle.std.specs.Prelude.{◌≡◌, ℕ, ◌<◌};
+ghost use Rattle.std.specs.Prelude.{◌≡◌, ℕ, ◌<◌, List, false, None, IfSome, IfNone};
+ghost use Rattle.std.specs.Str.{bytes_eq};
 ghost use Rattle.std.specs.Option.{option_copied};
-ghost use Rattle.resb.specs.Fields.{text_in, bytes_in, integers_in, items_in, entries_in, index_in, signed_in, sign_extended, field_in, first_with, seen};
+ghost use Rattle.resb.specs.Fields.{text_in, bytes_in, integers_in, items_in, entries_in, index_in, signed_in, sign_extended, field_in, first_with, StandsFirst, seen};
 
+use crate::key::Key;
 use sqlite_items::Items;
 
 /// A resource of a bundle, with its children (ICU resource bundle, format 2).
@@ -11,7 +13,7 @@ pub enum Resource {
     Text(Items<u16>),
     Bytes(Items<u8>),
     /// Keys with their values. Trees that `read` gives have each key once.
-    Table(Items<(Items<u8>, Resource)>),
+    Table(Items<(Key, Resource)>),
     /// A number, which a bundle holds in 28 bits.
     Integer(u32),
     Array(Items<Resource>),
@@ -20,7 +22,7 @@ pub enum Resource {
 }
 
 /// The value of the first entry with the key.
-fn first_with<'a>(entries: &'a [(Items<u8>, Resource)], key: &[u8]) -> Option<&'a Resource>
+fn first_with<'a>(entries: &'a [(Key, Resource)], key: &[u8]) -> Option<&'a Resource>
     ensures { option_copied result ≡ first_with key.now entries.now }
 {
     for (name, value) in entries {
@@ -29,6 +31,29 @@ fn first_with<'a>(entries: &'a [(Items<u8>, Resource)], key: &[u8]) -> Option<&'
         }
     }
     None
+}
+
+/// The place of the first entry with the key.
+fn place_of(entries: &[(Key, Resource)], key: &[u8]) -> Option<usize>
+    ensures some { IfSome result (λ at. StandsFirst key.now at entries.now) }
+    ensures none { IfNone result (first_with key.now entries.now ≡ None) }
+{
+    for at in 0..entries.len() {
+        if entries[at].0.as_slice() == key {
+            return Some(at);
+        }
+    }
+    None
+}
+
+/// Takes the first entry with the key out, and answers its value.
+fn take_first(entries: &mut Items<(Key, Resource)>, key: &[u8]) -> Option<Resource>
+    ensures value { result ≡ first_with key.now entries.old }
+    ensures others { (other : List ℕ) → bytes_eq other key.now ≡ false → first_with other entries.new ≡ first_with other entries.old }
+{
+    let at = place_of(entries.as_slice(), key)?;
+    let (_, value) = entries.remove(at);
+    Some(value)
 }
 
 /// The low 28 bits of a number with their sign.
@@ -85,7 +110,7 @@ impl Resource {
     }
 
     /// The entries of a table, in its order.
-    pub fn entries(&self) -> Option<&[(Items<u8>, Resource)]>
+    pub fn entries(&self) -> Option<&[(Key, Resource)]>
         ensures { seen result ≡ entries_in self.now }
     {
         match self {
@@ -120,6 +145,59 @@ impl Resource {
     {
         match self {
             Resource::Table(entries) => first_with(entries.as_slice(), key),
+            _ => None,
+        }
+    }
+
+    /// Takes the first entry with the key out of a table, and answers its value.
+    ///
+    /// `None` comes for another kind, and for a table without the key; then nothing changes.
+    pub fn take_field(&mut self, key: &[u8]) -> Option<Resource>
+        ensures value { result ≡ field_in key.now self.old }
+        ensures others { (other : List ℕ) → bytes_eq other key.now ≡ false → field_in other self.new ≡ field_in other self.old }
+    {
+        match self {
+            Resource::Table(entries) => take_first(entries, key),
+            _ => None,
+        }
+    }
+
+    /// The units of a text, moved out of it.
+    pub fn into_text(self) -> Option<Items<u16>>
+        ensures { result ≡ text_in self }
+    {
+        match self {
+            Resource::Text(units) => Some(units),
+            _ => None,
+        }
+    }
+
+    /// The bytes of a list of bytes, moved out of it.
+    pub fn into_bytes(self) -> Option<Items<u8>>
+        ensures { result ≡ bytes_in self }
+    {
+        match self {
+            Resource::Bytes(bytes) => Some(bytes),
+            _ => None,
+        }
+    }
+
+    /// The numbers of a list of integers, moved out of it.
+    pub fn into_integers(self) -> Option<Items<u32>>
+        ensures { result ≡ integers_in self }
+    {
+        match self {
+            Resource::Integers(values) => Some(values),
+            _ => None,
+        }
+    }
+
+    /// The items of an array, moved out of it.
+    pub fn into_items(self) -> Option<Items<Resource>>
+        ensures { result ≡ items_in self }
+    {
+        match self {
+            Resource::Array(items) => Some(items),
             _ => None,
         }
     }

@@ -435,10 +435,10 @@ fn tells_fields(rt: HostRuntime) -> Result<(), Fail> {
     let alloc = rt.alloc();
     let mut entries = Items::new(alloc);
     entries.push((
-        Items::from_slice(alloc, b"k")?,
+        Key::from_slice(alloc, b"k")?,
         Resource::Integer(0x1fff_ffff),
     ))?;
-    entries.push((Items::from_slice(alloc, b"k")?, Resource::Integer(2)))?;
+    entries.push((Key::from_slice(alloc, b"k")?, Resource::Integer(2)))?;
     let table = Resource::Table(entries);
     let first = table.field(b"k").ok_or("k")?;
     // the low 28 bits

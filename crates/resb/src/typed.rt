@@ -2,6 +2,7 @@ ghost use Rattle.std.specs.Prelude.{◌≡◌, ℕ, List, true, map};
 ghost use Rattle.resb.specs.declared.resource.Resource.{Resource};
 ghost use Rattle.resb.specs.Laws.{all_below, all_true, has_typed_parts};
 
+use crate::key::Key;
 use crate::resource::Resource;
 use sqlite_items::Items;
 
@@ -31,7 +32,7 @@ fn items_typed(items: &[Resource])
 /// So have those of the values' parts.
 #[cycle(typed)]
 #[tactic(auto, using(crate::proofs::TypeSizes::value_typed_more))]
-fn values_typed(entries: &[(Items<u8>, Resource)])
+fn values_typed(entries: &[(Key, Resource)])
     ensures { all_true (map has_typed_parts (map (λ (e : List ℕ × Resource). e.1) entries.now)) ≡ true }
 {
     for (_, value) in entries {

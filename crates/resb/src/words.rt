@@ -55,11 +55,11 @@ pub fn units_from(
         if at % 2 == 0 && end - at >= 2 {
             // a whole word
             let first = at / 2 * 2;
-            found.push(unit_at(words, first))?;
-            found.push(unit_at(words, first + 1))?;
+            found.push_reserved(unit_at(words, first));
+            found.push_reserved(unit_at(words, first + 1));
             at += 2;
         } else {
-            found.push(unit_at(words, at))?;
+            found.push_reserved(unit_at(words, at));
             at += 1;
         }
     }
@@ -83,13 +83,13 @@ pub fn bytes_from(
         if at % 4 == 0 && end - at >= 4 {
             // a whole word
             let first = at / 4 * 4;
-            found.push(byte_at(words, first))?;
-            found.push(byte_at(words, first + 1))?;
-            found.push(byte_at(words, first + 2))?;
-            found.push(byte_at(words, first + 3))?;
+            found.push_reserved(byte_at(words, first));
+            found.push_reserved(byte_at(words, first + 1));
+            found.push_reserved(byte_at(words, first + 2));
+            found.push_reserved(byte_at(words, first + 3));
             at += 4;
         } else {
-            found.push(byte_at(words, at))?;
+            found.push_reserved(byte_at(words, at));
             at += 1;
         }
     }

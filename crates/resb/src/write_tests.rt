@@ -20,7 +20,7 @@ fn table(alloc: Global, keys: &[&[u8]]) -> Result<Resource, AllocError> {
     let mut entries = Items::new(alloc);
     let mut value = 5u32;
     for key in keys {
-        entries.push((Items::from_slice(alloc, *key)?, Resource::Integer(value)))?;
+        entries.push((Key::from_slice(alloc, *key)?, Resource::Integer(value)))?;
         value = value.saturating_add(1);
     }
     Ok(Resource::Table(entries))
@@ -30,15 +30,15 @@ fn table(alloc: Global, keys: &[&[u8]]) -> Result<Resource, AllocError> {
 fn one_zone(alloc: Global) -> Result<Resource, AllocError> {
     let mut zone = Items::new(alloc);
     let offsets = Resource::Integers(Items::from_slice(alloc, &[7200, 0])?);
-    zone.push((Items::from_slice(alloc, b"typeOffsets")?, offsets))?;
+    zone.push((Key::from_slice(alloc, b"typeOffsets")?, offsets))?;
     let zones = array(alloc, Resource::Table(zone))?;
     let names = array(alloc, text(alloc, TEST_PLUS2.as_slice())?)?;
     let regions = array(alloc, text(alloc, &[48, 48, 49])?)?;
     let mut root = Items::new(alloc);
-    root.push((Items::from_slice(alloc, b"Zones")?, zones))?;
-    root.push((Items::from_slice(alloc, b"Names")?, names))?;
-    root.push((Items::from_slice(alloc, b"Rules")?, table(alloc, &[])?))?;
-    root.push((Items::from_slice(alloc, b"Regions")?, regions))?;
+    root.push((Key::from_slice(alloc, b"Zones")?, zones))?;
+    root.push((Key::from_slice(alloc, b"Names")?, names))?;
+    root.push((Key::from_slice(alloc, b"Rules")?, table(alloc, &[])?))?;
+    root.push((Key::from_slice(alloc, b"Regions")?, regions))?;
     Ok(Resource::Table(root))
 }
 

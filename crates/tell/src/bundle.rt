@@ -19,12 +19,12 @@ fn words(alloc: Global, bytes: &[u8]) -> Result<Vec<u32>, AllocError>
     let mut words = Vec::with_capacity(alloc, bytes.len() / 4)?;
     let mut rest = bytes;
     'packing: while let [a, b, c, d, e, f, g, h, others @ ..] = rest {
-        words.push(u32::from_le_bytes([*a, *b, *c, *d]))?;
-        words.push(u32::from_le_bytes([*e, *f, *g, *h]))?;
+        words.push_reserved(u32::from_le_bytes([*a, *b, *c, *d]));
+        words.push_reserved(u32::from_le_bytes([*e, *f, *g, *h]));
         rest = others;
     }
     if let [a, b, c, d, ..] = rest {
-        words.push(u32::from_le_bytes([*a, *b, *c, *d]))?;
+        words.push_reserved(u32::from_le_bytes([*a, *b, *c, *d]));
     }
     Ok(words)
 }

@@ -1,5 +1,5 @@
 use crate::{aliased, one_zone, three_zones, unlawful_zones};
-use resb::{ResbError, Resource, write};
+use resb::{Key, ResbError, Resource, write};
 use sqlite_items::Items;
 use std::alloc::{AllocError, Global};
 use std::test::Fail;
@@ -139,7 +139,7 @@ fn writes_no_key_twice(rt: HostRuntime) -> Result<(), Fail> {
     let alloc = rt.alloc();
     let mut entries = Vec::new(alloc);
     for _ in 0..2 {
-        entries.push((Items::from_slice(alloc, b"key")?, Resource::Integer(1)))?;
+        entries.push((Key::from_slice(alloc, b"key")?, Resource::Integer(1)))?;
     }
     let table = Resource::Table(Items::from_vec(entries));
     assert_eq!(rt; write(alloc, &table).err(), Some(ResbError::BadKey));

@@ -2,7 +2,7 @@
 ghost use Rattle.std.specs.Prelude.{◌≡◌, ◌∷◌, ◌++◌, [], pos, negsuc, ◌≤ℤ◌, Some, IfOk};
 ghost use Rattle.resb.specs.Fields.{signed_in, bytes_in, entries_in};
 
-use resb::Resource;
+use resb::{Key, Resource};
 use sqlite_items::Items;
 use std::alloc::{AllocError, Global};
 
@@ -43,7 +43,7 @@ pub fn bytes(alloc: Global, values: &[u8]) -> Result<Resource, AllocError>
 #[derive(Drop)]
 pub struct Entries {
     alloc: Global,
-    entries: Vec<(Items<u8>, Resource)>,
+    entries: Vec<(Key, Resource)>,
 }
 
 impl Entries {
@@ -59,7 +59,7 @@ impl Entries {
     pub fn add(&mut self, key: &str, value: Resource) -> Result<(), AllocError>
         ensures { IfOk result (λ _. self.new.entries.items ≡ self.old.entries.items ++ (key.now, value) ∷ []) }
     {
-        let key = Items::from_slice(self.alloc, key.as_bytes())?;
+        let key = Key::from_slice(self.alloc, key.as_bytes())?;
         self.entries.push((key, value))?;
         Ok(())
     }

@@ -1,10 +1,7 @@
 -- A list that a loop reads: what was read, and then what is still read.
 use Rattle.std.proofs.Common.{◌≡◌, List, [], ◌∷◌, ◌++◌, Option, Some, None, refl, ap, append_assoc}
 use Rattle.resb.specs.Tree.{◌>>=◌}
-
-abbrev pub with_front : {A : Type 0} → List A → Option (List A) → Option (List A)
-with_front front None = None
-with_front front (Some xs) = Some (front ++ xs)
+use Rattle.zoneinfo64.specs.Steps.{with_front}
 
 -- one more was read
 pub front_grows : {A : Type 0} (front : List A) (x : A) (read : Option (List A)) → with_front front (read >>= λ xs. Some (x ∷ xs)) ≡ with_front (front ++ x ∷ []) read

@@ -7,6 +7,7 @@ pub mod NameOrder
 pub mod Fronts
 pub mod Pairs
 pub mod Zones
+pub mod Roots
 pub mod Rising
 pub mod Regions
 pub mod Bundles

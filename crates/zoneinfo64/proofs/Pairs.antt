@@ -4,7 +4,8 @@ use Rattle.std.proofs.lemmas.Bool.{and_parts, and_from}
 use Rattle.std.proofs.lemmas.List.{take_all}
 use Rattle.zoneinfo64.specs.Bundle.{as_i32, fits_i32, sums_fit}
 use Rattle.zoneinfo64.specs.Steps.{pair_of, offset_steps}
-use Rattle.zoneinfo64.proofs.Fronts.{with_front, front_grows}
+use Rattle.zoneinfo64.specs.Steps.{with_front}
+use Rattle.zoneinfo64.proofs.Fronts.{front_grows}
 
 pair_on : (front : List (ℤ × ℤ)) (a b : ℕ) (p : ℤ × ℤ) (words : List ℕ) (total : Option (List (ℤ × ℤ))) → pair_of a b ≡ Some p
     → with_front front (offset_steps (a ∷ b ∷ words)) ≡ total → with_front (front ++ p ∷ []) (offset_steps words) ≡ total

@@ -1,11 +1,12 @@
 -- A zone from what was read of it.
-use Rattle.std.proofs.Common.{◌≡◌, ℕ, List, length, Option, Some, ℤ, refl, sym, codes}
+use Rattle.std.proofs.Common.{◌≡◌, ℕ, List, length, Option, Some, ℤ, false, IfSome, refl, sym, subst, codes}
+use Rattle.std.specs.Str.{bytes_eq}
 use Rattle.resb.specs.declared.resource.Resource.{Resource}
 use Rattle.zoneinfo64.specs.declared.offset.Offset.{Offset}
 use Rattle.zoneinfo64.specs.declared.offset.Transition.{Transition}
 use Rattle.zoneinfo64.specs.Zone.{RawRule, PlainRule}
 use Rattle.zoneinfo64.specs.Bundle.{table_of}
-use Rattle.zoneinfo64.specs.Steps.{type_offsets, initial_of, integers_at, bytes_at, wide, wide_at, seconds_of, zone_rule, zone_from, zone_steps}
+use Rattle.zoneinfo64.specs.Steps.{Leaves, type_offsets, initial_of, integers_at, bytes_at, wide, wide_at, seconds_of, zone_rule, zone_from, zone_steps}
 
 pub zone_read : (find : List ℕ → Option RawRule) (zone : Resource) (pairs slice again : List (ℤ × ℤ)) (initial : Offset) (early middle late numbers links : List ℕ) (table : List Transition) (rule : Option PlainRule)
     (early_len late_len : ℕ) (numbers_kept links_kept : List ℕ)
@@ -19,3 +20,12 @@ zone_read find zone pairs slice again initial early middle late numbers links ta
     let first : initial_of pairs ≡ Some initial = rw (← s) (sym i) in
     let whole : table_of pairs (seconds_of early middle late) numbers ≡ Some table = rw (← a) t in
     rw (p, first, e, m, l, n, k, whole, r, nk, lk, el, ll) refl
+
+-- what is taken where something stands
+pub taken : {A : Type 0} (o : Option A) (x result : A) → o ≡ Some x → IfSome o (λ y. result ≡ y) → result ≡ x
+taken {A} o x result e h = let P : Option A → Type 0 = λ v. IfSome v (λ y. result ≡ y) in subst P e h
+
+-- a list of integers stays where another field is taken
+pub integers_left : (key taken : List ℕ) (old new : Resource) (words : List ℕ) → Leaves taken old new → bytes_eq key taken ≡ false → integers_at key old ≡ Some words → integers_at key new ≡ Some words
+unfolding integers_at
+integers_left key taken old new words leaves apart e = rw (leaves key apart) e

@@ -1,8 +1,10 @@
 -- How a bundle is read, step by step.
-use Rattle.std.specs.Prelude.{ℕ, ◌==◌, nat_le, nat_lt, Bool, ◌&&◌, if◌then◌else◌, List, [], ◌∷◌, ◌++◌, length, map, Option, Some, None, Result, Ok, Err, ℤ, pos, ◌+ℤ◌, ◌*ℤ◌, int_lt, codes, ◌≡◌}
+use Rattle.std.specs.Prelude.{ℕ, ◌==◌, nat_le, nat_lt, Bool, ◌&&◌, if◌then◌else◌, List, [], ◌∷◌, ◌++◌, length, map, Option, Some, None, Result, Ok, Err, false, ℤ, pos, ◌+ℤ◌, ◌*ℤ◌, int_lt, codes, ◌≡◌}
 use Rattle.std.specs.Ordering.{nat_cmp, is_lt}
 use Rattle.std.specs.Cmp.Lexicographic.{slice_cmp}
 use Rattle.std.specs.Prelude.{Vec}
+use Rattle.std.specs.Borrow.{Bor}
+use Rattle.std.specs.Str.{bytes_eq}
 use Rattle.std.specs.declared.alloc.Global.{Global}
 use Rattle.std.specs.BTreeMap.{BTreeMap}
 use Rattle.resb.specs.Tree.{◌>>=◌, when}
@@ -110,19 +112,30 @@ wide_at key zone = do
 
 -- ---- the table
 
+-- what was read before, and what is still read
+abbrev pub with_front : {A : Type 0} → List A → Option (List A) → Option (List A)
+with_front front None = None
+with_front front (Some xs) = Some (front ++ xs)
+
 abbrev pub seconds_of : List ℕ → List ℕ → List ℕ → List ℤ
 seconds_of early middle late = wide early ++ map as_i32 middle ++ wide late
-
--- a list that is not empty
-abbrev pub filled : List ℤ → Option (List ℤ)
-filled [] = None
-filled (second ∷ seconds) = Some (second ∷ seconds)
 
 -- a transition at a second to a pair
 abbrev pub transition_to : ℤ × ℤ → ℤ → Transition
 transition_to pair second = record { since = second; offset = pair.0 +ℤ pair.1; rule_applies = int_lt (pos 0) pair.1 }
 
+-- the transitions at some seconds were appended, and those at more seconds take the numbers that are left; or there is no table
+abbrev pub GoesOn : List (ℤ × ℤ) → List Transition → List ℤ → List ℕ → Result (Bor (List ℕ)) BinaryDeserializerError → List Transition → Type 0
+GoesOn pairs old seconds numbers (Ok rest) new = (more : List ℤ) → with_front old (table_of pairs (seconds ++ more) numbers) ≡ with_front new (table_of pairs more rest.now)
+GoesOn pairs old seconds numbers (Err errors.Memory) new = Unit {0}
+GoesOn pairs old seconds numbers (Err errors.Rules) new = (more : List ℤ) → table_of pairs (seconds ++ more) numbers ≡ None
+GoesOn pairs old seconds numbers (Err errors.Tree) new = ⊥
+
 -- ---- a zone
+
+-- the fields with other keys stay
+abbrev pub Leaves : List ℕ → Resource → Resource → Type 0
+Leaves key old new = (other : List ℕ) → bytes_eq other key ≡ false → field_in other new ≡ field_in other old
 
 abbrev pub zone_from : Offset → List Transition → ℕ → ℕ → Option PlainRule → List (ℤ × ℤ) → List ℕ → List ℕ → PlainZone
 zone_from initial table early late rule pairs numbers links = record {

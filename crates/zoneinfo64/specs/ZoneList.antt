@@ -17,8 +17,8 @@ plain_data d = record {
   late = d.late;
   rule = d.rule;
   type_offsets = d.type_offsets.items;
-  type_map = d.type_map.items;
-  links = d.links.items;
+  type_map = d.type_map;
+  links = d.links;
 }
 
 abbrev pub place_of_item : Item → Place

@@ -4,7 +4,7 @@ ghost use Rattle.zoneinfo64.specs.NamedZone.{zone_at};
 ghost use Rattle.resb.specs.Header.{tree_of};
 ghost use Rattle.zoneinfo64.specs.Bundle.{rises, is_resolved, all_resolved};
 ghost use Rattle.zoneinfo64.specs.RuleView.{rule_for};
-ghost use Rattle.zoneinfo64.specs.Steps.{Reads, place_steps, named_steps, list_steps, array_in, table_in, is_before, are_arrays, checked_steps, root_steps};
+ghost use Rattle.zoneinfo64.specs.Steps.{Reads, place_steps, named_steps, list_steps, array_in, table_in, Leaves, is_before, are_arrays, checked_steps, root_steps};
 ghost use Rattle.zoneinfo64.specs.ZoneList.{zones_of, named_of, place_of_item, HasText, AreEntries};
 
 use crate::error::BinaryDeserializerError;
@@ -12,14 +12,14 @@ use crate::fields::{region_of, zone_data};
 use crate::rules::{Rules, rules};
 use crate::utf16::PotentialUtf16;
 use crate::zone::{Item, Named, ZoneInfo64};
-use resb::{ResbError, Resource};
+use resb::{Key, ResbError, Resource};
 use sqlite_items::Items;
 use std::alloc::Global;
 
 /// A zone, or the place of one.
 #[tactic(auto, unfolding(crate::specs::Steps::place_steps))]
-fn item(alloc: Global, rules: &Rules, zone: &Resource) -> Result<Item, BinaryDeserializerError>
-    ensures { Reads place_of_item result (place_steps (rule_for rules.now) zone.now) }
+fn item(alloc: Global, rules: &Rules, zone: Resource) -> Result<Item, BinaryDeserializerError>
+    ensures { Reads place_of_item result (place_steps (rule_for rules.now) zone) }
 {
     match zone.index() {
         Some(place) => Ok(Item::Alias(place)),
@@ -30,19 +30,19 @@ fn item(alloc: Global, rules: &Rules, zone: &Resource) -> Result<Item, BinaryDes
     }
 }
 
-/// One zone with its name and region.
+/// One zone with its name and region. The units of the name are moved.
 #[tactic(auto, unfolding(crate::specs::Steps::named_steps))]
 fn named(
     alloc: Global,
     rules: &Rules,
-    zone: &Resource,
-    name: &Resource,
+    zone: Resource,
+    name: Resource,
     region: &Resource,
 ) -> Result<Named, BinaryDeserializerError>
-    ensures zone { Reads named_of result (named_steps (rule_for rules.now) zone.now name.now region.now) }
+    ensures zone { Reads named_of result (named_steps (rule_for rules.now) zone name region.now) }
     ensures text { IfOk result HasText }
 {
-    let Some(units) = name.text() else {
+    let Some(units) = name.into_text() else {
         return Err(BinaryDeserializerError::Rules);
     };
     let Some(region_units) = region.text() else {
@@ -52,34 +52,39 @@ fn named(
         return Err(BinaryDeserializerError::Rules);
     };
     let item = item(alloc, rules, zone)?;
-    let name = PotentialUtf16::from_units(alloc, units)?;
-    let text = String::from_utf16_lossy(alloc, units)?;
+    let text = String::from_utf16_lossy(alloc, units.as_slice())?;
     Ok(Named {
-        name,
+        name: PotentialUtf16::from_units(units),
         text,
         region,
         item,
     })
 }
 
-/// The zones of three arrays, read side by side.
+/// The zones of three arrays, read side by side, from the last on, as items are moved out of the end of a list.
 fn named_zones(
     alloc: Global,
     rules: &Rules,
-    zones: &[Resource],
-    names: &[Resource],
+    mut zones: Items<Resource>,
+    mut names: Items<Resource>,
     regions: &[Resource],
 ) -> Result<Vec<Named>, BinaryDeserializerError>
-    requires names { length names.now ≡ length zones.now }
-    requires regions { length regions.now ≡ length zones.now }
-    ensures zones { Reads (λ v. zones_of v.items) result (list_steps (rule_for rules.now) zones.now names.now regions.now) }
+    requires names { length names ≡ length zones }
+    requires regions { length regions.now ≡ length zones }
+    ensures zones { Reads (λ v. zones_of v.items) result (list_steps (rule_for rules.now) zones names regions.now) }
     ensures texts { IfOk result (λ v. All HasText v.items) }
 {
-    let mut entries = Vec::with_capacity(alloc, zones.len())?;
-    for at in 0..zones.len() {
-        let entry = named(alloc, rules, &zones[at], &names[at], &regions[at])?;
+    let mut entries = Vec::with_capacity(alloc, regions.len())?;
+    let mut at = regions.len();
+    while at > 0 {
+        at -= 1;
+        let (Some(zone), Some(name)) = (zones.pop(), names.pop()) else {
+            unreachable!()
+        };
+        let entry = named(alloc, rules, zone, name, &regions[at])?;
         entries.push(entry)?;
     }
+    entries.reverse();
     Ok(entries)
 }
 
@@ -105,14 +110,16 @@ fn rises(entries: &[Named]) -> bool
     true
 }
 
+/// Takes an array out of the root.
 #[tactic(auto, unfolding(crate::specs::Steps::array_in))]
-fn array<'a>(root: &'a Resource, key: &[u8]) -> Result<&'a [Resource], BinaryDeserializerError>
-    ensures { Reads (λ r. r.now) result (array_in key.now root.now) }
+fn array(root: &mut Resource, key: &[u8]) -> Result<Items<Resource>, BinaryDeserializerError>
+    ensures items { Reads (λ items. items) result (array_in key.now root.old) }
+    ensures others { Leaves key.now root.old root.new }
 {
-    let Some(field) = root.field(key) else {
+    let Some(field) = root.take_field(key) else {
         return Err(BinaryDeserializerError::Rules);
     };
-    match field.items() {
+    match field.into_items() {
         Some(items) => Ok(items),
         None => Err(BinaryDeserializerError::Rules),
     }
@@ -122,7 +129,7 @@ fn array<'a>(root: &'a Resource, key: &[u8]) -> Result<&'a [Resource], BinaryDes
 fn table<'a>(
     root: &'a Resource,
     key: &[u8],
-) -> Result<&'a [(Items<u8>, Resource)], BinaryDeserializerError>
+) -> Result<&'a [(Key, Resource)], BinaryDeserializerError>
     ensures { Reads (λ r. r.now) result (table_in key.now root.now) }
 {
     let Some(field) = root.field(key) else {
@@ -180,14 +187,14 @@ fn are_arrays(zones: &[Resource], names: &[Resource], regions: &[Resource]) -> b
 fn checked_zones(
     alloc: Global,
     rules: &Rules,
-    zones: &[Resource],
-    names: &[Resource],
+    zones: Items<Resource>,
+    names: Items<Resource>,
     regions: &[Resource],
 ) -> Result<Vec<Named>, BinaryDeserializerError>
-    ensures zones { Reads (λ v. zones_of v.items) result (checked_steps (rule_for rules.now) zones.now names.now regions.now) }
+    ensures zones { Reads (λ v. zones_of v.items) result (checked_steps (rule_for rules.now) zones names regions.now) }
     ensures entries { IfOk result (λ v. AreEntries v.items) }
 {
-    if !are_arrays(zones, names, regions) {
+    if !are_arrays(zones.as_slice(), names.as_slice(), regions) {
         return Err(BinaryDeserializerError::Rules);
     }
     let entries = named_zones(alloc, rules, zones, names, regions)?;
@@ -200,15 +207,15 @@ fn checked_zones(
 
 /// The zones of the tree of a bundle.
 #[tactic(auto, unfolding(crate::specs::Steps::root_steps))]
-fn zones_in(alloc: Global, root: &Resource) -> Result<Vec<Named>, BinaryDeserializerError>
-    ensures zones { Reads (λ v. zones_of v.items) result (root_steps root.now) }
+fn zones_in(alloc: Global, mut root: Resource) -> Result<Vec<Named>, BinaryDeserializerError>
+    ensures zones { Reads (λ v. zones_of v.items) result (root_steps root) }
     ensures entries { IfOk result (λ v. AreEntries v.items) }
 {
-    let zones = array(root, b"Zones")?;
-    let names = array(root, b"Names")?;
-    let regions = array(root, b"Regions")?;
-    let rules = rules(alloc, table(root, b"Rules")?)?;
-    checked_zones(alloc, &rules, zones, names, regions)
+    let zones = array(&mut root, b"Zones")?;
+    let names = array(&mut root, b"Names")?;
+    let regions = array(&mut root, b"Regions")?;
+    let rules = rules(alloc, table(&root, b"Rules")?)?;
+    checked_zones(alloc, &rules, zones, names, regions.as_slice())
 }
 
 impl ZoneInfo64 {
@@ -239,7 +246,7 @@ impl ZoneInfo64 {
             Err(ResbError::Memory) => return Err(BinaryDeserializerError::Memory),
             Err(_) => return Err(BinaryDeserializerError::Tree),
         };
-        let entries = zones_in(alloc, &root)?;
+        let entries = zones_in(alloc, root)?;
         Ok(ZoneInfo64::from_entries(entries))
     }
 }

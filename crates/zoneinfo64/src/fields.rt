@@ -1,9 +1,9 @@
 //! The fields of a zone.
-ghost use Rattle.std.specs.Prelude.{◌≡◌, ℕ, ◌+ℤ◌, ◌<◌, ◌∷◌, [], IsTrue, IfOk, IfSome, IfNone, Option, Some, length, option_map, slice_get};
+ghost use Rattle.std.specs.Prelude.{◌≡◌, ℕ, ◌+◌, ◌+ℤ◌, ◌≤◌, map, IsTrue, IfOk, IfSome, length, slice_get, vec_len, vec_capacity};
 ghost use Rattle.resb.specs.Fields.{field_in, integers_in};
 ghost use Rattle.zoneinfo64.specs.Bundle.{as_i32, fits_i32, pair_offset, sums_fit, table_of, region_byte, region_of_chars};
 ghost use Rattle.zoneinfo64.specs.RuleView.{rule_for};
-ghost use Rattle.zoneinfo64.specs.Steps.{Reads, pair_of, offset_steps, type_offsets, initial_of, integers_at, bytes_at, wide, wide_second, wide_at, seconds_of, filled, transition_to, used_rule, zone_rule, zone_steps};
+ghost use Rattle.zoneinfo64.specs.Steps.{Reads, pair_of, offset_steps, type_offsets, initial_of, integers_at, bytes_at, wide, wide_second, wide_at, seconds_of, transition_to, Leaves, GoesOn, used_rule, zone_rule, zone_steps};
 ghost use Rattle.zoneinfo64.specs.ZoneList.{plain_data};
 
 use crate::error::BinaryDeserializerError;
@@ -13,6 +13,7 @@ use crate::rule::YearRule;
 use crate::rules::Rules;
 use crate::zone::ZoneData;
 use resb::Resource;
+use sqlite_items::Items;
 use std::alloc::Global;
 
 /// A unit of a region as a byte, 0 where it is not ASCII.
@@ -141,56 +142,6 @@ fn wide_second(high: u32, low: u32) -> i64
     i64::from(signed(high)) * 4_294_967_296 + i64::from(low)
 }
 
-/// The seconds of the three parts of a table that are left: two words each in the first and third part, and one in the
-/// second.
-#[derive(Clone, Copy)]
-struct Seconds<'a> {
-    early: &'a [u32],
-    middle: &'a [u32],
-    late: &'a [u32],
-}
-
-/// The next second, and those after it.
-fn next_second<'a>(
-    early: &'a [u32],
-    middle: &'a [u32],
-    late: &'a [u32],
-) -> Option<(i64, Seconds<'a>)>
-    ensures { option_map (λ p. p.0 ∷ seconds_of p.1.early.now p.1.middle.now p.1.late.now) result ≡ filled (seconds_of early.now middle.now late.now) }
-{
-    if let [high, low, early @ ..] = early {
-        return Some((
-            wide_second(*high, *low),
-            Seconds {
-                early,
-                middle,
-                late,
-            },
-        ));
-    }
-    if let [second, middle @ ..] = middle {
-        return Some((
-            i64::from(signed(*second)),
-            Seconds {
-                early,
-                middle,
-                late,
-            },
-        ));
-    }
-    if let [high, low, late @ ..] = late {
-        return Some((
-            wide_second(*high, *low),
-            Seconds {
-                early,
-                middle,
-                late,
-            },
-        ));
-    }
-    None
-}
-
 fn pair_offset(pair: (i32, i32)) -> Offset
     requires { IsTrue (fits_i32 (pair.0 +ℤ pair.1)) }
     ensures { result ≡ pair_offset pair }
@@ -222,6 +173,79 @@ fn transition_to(pair: (i32, i32), second: i64) -> Transition
     }
 }
 
+/// The transition at a second of two words to a pair.
+fn wide_transition(pair: (i32, i32), high: u32, low: u32) -> Transition
+    requires { IsTrue (fits_i32 (pair.0 +ℤ pair.1)) }
+    ensures { result ≡ transition_to pair (wide_second high low) }
+{
+    transition_to(pair, wide_second(high, low))
+}
+
+/// The transition at a second of one word to a pair.
+fn narrow_transition(pair: (i32, i32), second: u32) -> Transition
+    requires { IsTrue (fits_i32 (pair.0 +ℤ pair.1)) }
+    ensures { result ≡ transition_to pair (as_i32 second) }
+{
+    transition_to(pair, i64::from(signed(second)))
+}
+
+/// Appends the transitions at seconds of two words each to the pairs of the first numbers, and answers the numbers that are
+/// left.
+fn push_wide<'n>(
+    table: &mut Vec<Transition>,
+    pairs: &[(i32, i32)],
+    words: &[u32],
+    numbers: &'n [u8],
+) -> Result<&'n [u8], BinaryDeserializerError>
+    requires fit { IsTrue (sums_fit pairs.now) }
+    requires room { vec_len table.old + length numbers.now ≤ vec_capacity table.old }
+    ensures table { GoesOn pairs.now table.old.items (wide words.now) numbers.now result table.new.items }
+    ensures room { IfOk result (λ rest. vec_len table.new + length rest.now ≤ vec_capacity table.new) }
+{
+    let mut seconds = words;
+    let mut rest = numbers;
+    while let [high, low, later @ ..] = seconds {
+        let [number, more @ ..] = rest else {
+            return Err(BinaryDeserializerError::Rules);
+        };
+        let Some(pair) = pair_at(pairs, *number) else {
+            return Err(BinaryDeserializerError::Rules);
+        };
+        table.push_reserved(wide_transition(pair, *high, *low));
+        seconds = later;
+        rest = more;
+    }
+    Ok(rest)
+}
+
+/// The same at seconds of one word each.
+fn push_narrow<'n>(
+    table: &mut Vec<Transition>,
+    pairs: &[(i32, i32)],
+    words: &[u32],
+    numbers: &'n [u8],
+) -> Result<&'n [u8], BinaryDeserializerError>
+    requires fit { IsTrue (sums_fit pairs.now) }
+    requires room { vec_len table.old + length numbers.now ≤ vec_capacity table.old }
+    ensures table { GoesOn pairs.now table.old.items (map as_i32 words.now) numbers.now result table.new.items }
+    ensures room { IfOk result (λ rest. vec_len table.new + length rest.now ≤ vec_capacity table.new) }
+{
+    let mut seconds = words;
+    let mut rest = numbers;
+    while let [second, later @ ..] = seconds {
+        let [number, more @ ..] = rest else {
+            return Err(BinaryDeserializerError::Rules);
+        };
+        let Some(pair) = pair_at(pairs, *number) else {
+            return Err(BinaryDeserializerError::Rules);
+        };
+        table.push_reserved(narrow_transition(pair, *second));
+        seconds = later;
+        rest = more;
+    }
+    Ok(rest)
+}
+
 /// The table of a zone: the transitions at these seconds to the pairs of these numbers.
 fn table(
     alloc: Global,
@@ -235,26 +259,13 @@ fn table(
     ensures { Reads (λ v. v.items) result (table_of pairs.now (seconds_of early.now middle.now late.now) numbers.now) }
 {
     let mut table = Vec::with_capacity(alloc, numbers.len())?;
-    let mut seconds = Seconds {
-        early,
-        middle,
-        late,
-    };
-    let mut rest = numbers;
-    while let [number, more @ ..] = rest {
-        let Some((second, others)) = next_second(seconds.early, seconds.middle, seconds.late) else {
-            return Err(BinaryDeserializerError::Rules);
-        };
-        let Some(pair) = pair_at(pairs, *number) else {
-            return Err(BinaryDeserializerError::Rules);
-        };
-        table.push(transition_to(pair, second))?;
-        seconds = others;
-        rest = more;
-    }
-    match next_second(seconds.early, seconds.middle, seconds.late) {
-        None => Ok(table),
-        Some(_) => Err(BinaryDeserializerError::Rules),
+    let rest = push_wide(&mut table, pairs, early, numbers)?;
+    let rest = push_narrow(&mut table, pairs, middle, rest)?;
+    let rest = push_wide(&mut table, pairs, late, rest)?;
+    if rest.is_empty() {
+        Ok(table)
+    } else {
+        Err(BinaryDeserializerError::Rules)
     }
 }
 
@@ -315,33 +326,65 @@ fn initial(pairs: &[(i32, i32)]) -> Option<Offset>
     }
 }
 
+/// Takes a list of bytes out of a zone, empty where it is missing.
+#[tactic(auto, unfolding(crate::specs::Steps::bytes_at))]
+fn taken_bytes(alloc: Global, zone: &mut Resource, key: &[u8]) -> Items<u8>
+    ensures value { IfSome (bytes_at key.now zone.old) (λ bytes. result ≡ bytes) }
+    ensures others { Leaves key.now zone.old zone.new }
+{
+    match zone.take_field(key) {
+        Some(field) => match field.into_bytes() {
+            Some(bytes) => bytes,
+            None => Items::new(alloc),
+        },
+        None => Items::new(alloc),
+    }
+}
+
+/// Takes a list of integers out of a zone, empty where it is missing.
+#[tactic(auto, unfolding(crate::specs::Steps::integers_at))]
+fn taken_integers(alloc: Global, zone: &mut Resource, key: &[u8]) -> Items<u32>
+    ensures { IfSome (integers_at key.now zone.old) (λ words. result ≡ words) }
+{
+    match zone.take_field(key) {
+        Some(field) => match field.into_integers() {
+            Some(words) => words,
+            None => Items::new(alloc),
+        },
+        None => Items::new(alloc),
+    }
+}
+
 /// A zone from the table of its fields.
 #[tactic(auto, unfolding(crate::specs::Steps::zone_steps))]
 pub fn zone_data(
     alloc: Global,
     rules: &Rules,
-    zone: &Resource,
+    mut zone: Resource,
 ) -> Result<ZoneData, BinaryDeserializerError>
-    ensures { Reads plain_data result (zone_steps (rule_for rules.now) zone.now) }
+    ensures { Reads plain_data result (zone_steps (rule_for rules.now) zone) }
 {
-    let type_offsets = type_offsets(alloc, zone)?;
+    let type_offsets = type_offsets(alloc, &zone)?;
     let Some(initial) = initial(&type_offsets) else {
         return Err(BinaryDeserializerError::Rules);
     };
-    let early = wide(zone, b"transPre32")?;
-    let middle = integers(zone, b"trans")?;
-    let late = wide(zone, b"transPost32")?;
-    let numbers = bytes(zone, b"typeMap")?;
-    let links = integers(zone, b"links")?;
+    let early = wide(&zone, b"transPre32")?;
+    let middle = integers(&zone, b"trans")?;
+    let late = wide(&zone, b"transPost32")?;
+    let numbers = bytes(&zone, b"typeMap")?;
+    integers(&zone, b"links")?;
     let table = table(alloc, &type_offsets, early, middle, late, numbers)?;
-    let rule = zone_rule(rules, zone)?;
-    let type_map = Vec::from_slice(alloc, numbers)?;
-    let links = Vec::from_slice(alloc, links)?;
+    let rule = zone_rule(rules, &zone)?;
+    let early = wide_len(early);
+    let late = wide_len(late);
+    // what is kept as it was read is moved, and has no second copy
+    let type_map = taken_bytes(alloc, &mut zone, b"typeMap");
+    let links = taken_integers(alloc, &mut zone, b"links");
     Ok(ZoneData {
         initial,
         table,
-        early: wide_len(early),
-        late: wide_len(late),
+        early,
+        late,
         rule,
         type_offsets,
         type_map,

@@ -8,8 +8,7 @@ ghost use Rattle.zoneinfo64.specs.Steps.{Reads, ReadsRules, rule_in};
 
 use crate::error::BinaryDeserializerError;
 use crate::rule::{RuleDates, dates};
-use resb::Resource;
-use sqlite_items::Items;
+use resb::{Key, Resource};
 use std::alloc::{AllocError, Global};
 use std::collections::BTreeMap;
 
@@ -42,10 +41,7 @@ fn rule(value: &Resource) -> Result<RuleDates, BinaryDeserializerError>
 }
 
 /// All rules of a bundle. Of rules with one key the first counts, so they are put in from the last on.
-pub fn rules(
-    alloc: Global,
-    entries: &[(Items<u8>, Resource)],
-) -> Result<Rules, BinaryDeserializerError>
+pub fn rules(alloc: Global, entries: &[(Key, Resource)]) -> Result<Rules, BinaryDeserializerError>
     ensures { ReadsRules result (rules_of entries.now) }
 {
     let mut rules = BTreeMap::new(alloc);

@@ -4,13 +4,13 @@ ghost use Rattle.std.specs.Option.{unwrap_or};
 ghost use Rattle.std.specs.Char.Utf16.{utf16_lossy_chars, lone_unit_char, is_high_surrogate, is_low_surrogate, surrogate_pair_char};
 ghost use Rattle.std.specs.Iterator.{YieldsFirst, item_count};
 
-use std::alloc::{AllocError, Global};
+use sqlite_items::Items;
 use std::marker::Model;
 
 /// A name in UTF-16, in which a surrogate may stand without its partner.
 #[derive(Drop)]
 pub struct PotentialUtf16 {
-    units: Vec<u16>,
+    units: Items<u16>,
 }
 
 impl Model for PotentialUtf16 {
@@ -18,18 +18,15 @@ impl Model for PotentialUtf16 {
 
     ghost Value = { List ℕ };
 
-    ghost view = { λ a. a.units.items };
+    ghost view = { λ a. a.units };
 }
 
 impl PotentialUtf16 {
-    ghost use Rattle.std.specs.Prelude.{IfOk};
-
     /// A name of these units.
-    pub(crate) fn from_units(alloc: Global, units: &[u16]) -> Result<PotentialUtf16, AllocError>
-        ensures { IfOk result (λ name. name ≡ units.now) }
+    pub(crate) fn from_units(units: Items<u16>) -> PotentialUtf16
+        ensures { result ≡ units }
     {
-        let units = Vec::from_slice(alloc, units)?;
-        Ok(PotentialUtf16 { units })
+        PotentialUtf16 { units }
     }
 
     /// Its units.

@@ -6,6 +6,7 @@ use crate::offset::{Offset, PossibleOffset, Transition, UtcOffset};
 use crate::region::Region;
 use crate::rule::YearRule;
 use crate::utf16::PotentialUtf16;
+use sqlite_items::Items;
 use std::cmp::Ordering;
 use std::marker::Model;
 
@@ -19,8 +20,8 @@ pub struct ZoneData {
     pub late: usize,
     pub rule: Option<YearRule>,
     pub type_offsets: Vec<(i32, i32)>,
-    pub type_map: Vec<u8>,
-    pub links: Vec<u32>,
+    pub type_map: Items<u8>,
+    pub links: Items<u32>,
 }
 
 /// A zone, or the place of one.

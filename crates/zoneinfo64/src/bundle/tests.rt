@@ -34,7 +34,7 @@ fn pair(alloc: Global, first: Resource, second: Resource) -> Result<Resource, Al
     Ok(Resource::Array(items))
 }
 
-type Entries = Items<(Items<u8>, Resource)>;
+type Entries = Items<(Key, Resource)>;
 
 fn put(
     alloc: Global,
@@ -42,7 +42,7 @@ fn put(
     key: &[u8],
     value: Resource,
 ) -> Result<(), AllocError> {
-    let key = Items::from_slice(alloc, key)?;
+    let key = Key::from_slice(alloc, key)?;
     entries.push((key, value))
 }
 
@@ -108,7 +108,7 @@ fn two_zones(alloc: Global, first: &[u16], second: &[u16]) -> Result<Resource, A
 }
 
 fn is_refused(alloc: Global, root: Resource) -> bool {
-    matches!(zones_in(alloc, &root), Err(BinaryDeserializerError::Rules))
+    matches!(zones_in(alloc, root), Err(BinaryDeserializerError::Rules))
 }
 
 /// The data of an entry that is no alias.
@@ -124,7 +124,7 @@ fn reads_one_zone(rt: HostRuntime) -> Result<(), Fail> {
     let alloc = rt.alloc();
     let plus2 = zone_with(alloc, b"links", integers(alloc, &[0, 7])?)?;
     let root = one_zone(alloc, plus2, ascii(alloc, b"001")?)?;
-    let entries = zones_in(alloc, &root)?;
+    let entries = zones_in(alloc, root)?;
     assert_eq!(rt; entries.len(), 1);
     let entry = &entries[0];
     assert_eq!(rt; entry.text.as_str(), "Test/Plus2");
@@ -145,7 +145,7 @@ fn reads_signed_offsets(rt: HostRuntime) -> Result<(), Fail> {
     let alloc = rt.alloc();
     let words = [4_294_949_296, 3600, 0, 0];
     let root = one_zone(alloc, zone(alloc, &words)?, ascii(alloc, b"US")?)?;
-    let entries = zones_in(alloc, &root)?;
+    let entries = zones_in(alloc, root)?;
     assert_eq!(rt; entries.len(), 1);
     let zone = data(&entries[0]).expect(&rt, "a zone");
     assert_eq!(rt; zone.initial.offset.seconds(), -14_400);
@@ -174,7 +174,7 @@ fn accepts_regions(rt: HostRuntime) -> Result<(), Fail> {
     ];
     for (units, code) in rows {
         let root = one_zone(alloc, zone(alloc, &[0, 0])?, text(alloc, units)?)?;
-        let entries = zones_in(alloc, &root)?;
+        let entries = zones_in(alloc, root)?;
         assert_eq!(rt; entries.len(), 1);
         assert_eq!(rt; entries[0].region.raw(), code, "at {units:?}");
     }
@@ -291,7 +291,7 @@ fn reads_a_table(rt: HostRuntime) -> Result<(), Fail> {
     let late = [0, 0xFFFF_FFFF];
     let zone = table_zone(alloc, &early, &middle, &late, &[0, 1, 0, 1, 0])?;
     let root = one_zone(alloc, zone, ascii(alloc, b"001")?)?;
-    let entries = zones_in(alloc, &root)?;
+    let entries = zones_in(alloc, root)?;
     assert_eq!(rt; entries.len(), 1);
     let zone = data(&entries[0]).expect(&rt, "a zone");
     assert_eq!(rt; zone.early, 2);
@@ -447,7 +447,7 @@ fn los_angeles(
     alloc: Global,
     rule: &[u16],
     raw: u32,
-) -> Result<Items<(Items<u8>, Resource)>, AllocError> {
+) -> Result<Items<(Key, Resource)>, AllocError> {
     let mut entries = Items::new(alloc);
     let offsets = integers(alloc, &[4_294_938_496, 0, 4_294_938_496, 3600])?;
     put(alloc, &mut entries, b"typeOffsets", offsets)?;
@@ -565,7 +565,7 @@ fn east(seconds: i32) -> Offset {
 fn finds_zones_by_their_names(rt: HostRuntime) -> Result<(), Fail> {
     let alloc = rt.alloc();
     let root = three_zones(alloc, Resource::Integer(0))?;
-    let info = ZoneInfo64::from_entries(zones_in(alloc, &root)?);
+    let info = ZoneInfo64::from_entries(zones_in(alloc, root)?);
     let rows = [
         ("America/Los_Angeles", *b"US\0", false),
         ("Test/Plus2", *b"001", true),
@@ -609,7 +609,7 @@ fn offsets_of_a_day_are_not_fixed(rt: HostRuntime) -> Result<(), Fail> {
     ];
     for (seconds, fixed) in rows {
         let root = one_zone(alloc, zone(alloc, &[seconds, 0])?, ascii(alloc, b"001")?)?;
-        let info = ZoneInfo64::from_entries(zones_in(alloc, &root)?);
+        let info = ZoneInfo64::from_entries(zones_in(alloc, root)?);
         let zone = info.get("Test/Plus2").expect(&rt, "Test/Plus2");
         assert_eq!(rt; zone.fixed(), fixed, "{seconds}");
     }
@@ -664,7 +664,7 @@ fn characters_of_units(rt: HostRuntime) -> Result<(), Fail> {
         (&[0xD83D, 0xD83D, 0xDE00], "\u{FFFD}\u{1F600}"),
     ];
     for (units, spelled) in rows {
-        let name = PotentialUtf16::from_units(alloc, units)?;
+        let name = PotentialUtf16::from_units(Items::from_slice(alloc, units)?);
         assert_eq!(rt; name.units(), units);
         assert!(rt; name.chars().eq(spelled.chars()), "{spelled}");
     }

@@ -1,4 +1,5 @@
-use Rattle.std.proofs.Common.{◌≡◌, ◌≤◌, ◌-◌}
+use Rattle.std.proofs.Common.{◌≡◌, ◌≤◌, ◌+◌, ◌-◌, vec_len}
+use Rattle.std.specs.Prelude.{vec_capacity}
 use Rattle.resb.specs.Words.{run, unit_in}
 use Rattle.resb.proofs.words.units_from.Given as goal
 
@@ -7,6 +8,7 @@ invariant-loop-at l = record {
   read : l.found.items ≡ run (unit_in l.words) l.from (l.at - l.from);
   from : l.from ≤ l.at;
   end : l.at ≤ l.end;
+  room : vec_len l.found + (l.end - l.at) ≤ vec_capacity l.found;
 }
 
 abbrev pub decreases-loop-at : goal.decreases-loop-at

@@ -1,0 +1,52 @@
+-- The root of a bundle, from which the arrays are taken one after the other.
+use Rattle.std.proofs.Common.{◌≡◌, ℕ, List, Option, Some, None, Err, refl, codes}
+use Rattle.resb.specs.declared.resource.Resource.{Resource}
+use Rattle.zoneinfo64.specs.declared.error.BinaryDeserializerError.{BinaryDeserializerError}
+use Rattle.zoneinfo64.specs.declared.error.BinaryDeserializerError.TheVariants as errors
+use Rattle.zoneinfo64.specs.Zone.{RawRule}
+use Rattle.zoneinfo64.specs.Bundle.{rules_of}
+use Rattle.zoneinfo64.specs.Steps.{Reads, ReadsRules, Leaves, array_in, table_in, root_steps}
+
+-- where a part is not read, the whole is not
+pub broken : {X Y V W : Type 0} (part_view : X → V) (view : Y → W) (e : BinaryDeserializerError) (part : Option V) (whole : Option W) → (part ≡ None → whole ≡ None) → Reads part_view (Err e) part → Reads view (Err e) whole
+broken part_view view errors.Memory part whole none read = tt
+broken part_view view errors.Rules part whole none read = none read
+broken part_view view errors.Tree part whole none read = elim read [ ]
+
+pub rules_broken : {Y W : Type 0} (view : Y → W) (e : BinaryDeserializerError) (rules : Option (List (List ℕ × RawRule))) (whole : Option W) → (rules ≡ None → whole ≡ None) → ReadsRules (Err e) rules → Reads view (Err e) whole
+rules_broken view errors.Memory rules whole none read = tt
+rules_broken view errors.Rules rules whole none read = none read
+rules_broken view errors.Tree rules whole none read = elim read [ ]
+
+-- the names stay where the zones are taken
+pub names_left : (root next : Resource) → Leaves (codes "Zones") root next → array_in (codes "Names") next ≡ array_in (codes "Names") root
+unfolding array_in
+names_left root next leaves = rw (leaves (codes "Names") refl) refl
+
+-- the regions stay where zones and names are taken
+pub regions_left : (root next later : Resource) → Leaves (codes "Zones") root next → Leaves (codes "Names") next later → array_in (codes "Regions") later ≡ array_in (codes "Regions") root
+unfolding array_in
+regions_left root next later one two = rw (two (codes "Regions") refl, one (codes "Regions") refl) refl
+
+-- and the rules where the regions are taken too
+pub rules_left : (root next later last : Resource) → Leaves (codes "Zones") root next → Leaves (codes "Names") next later → Leaves (codes "Regions") later last → table_in (codes "Rules") last ≡ table_in (codes "Rules") root
+unfolding table_in
+rules_left root next later last one two three = rw (three (codes "Rules") refl, two (codes "Rules") refl, one (codes "Rules") refl) refl
+
+pub no_names : (root : Resource) (zones : List Resource) → array_in (codes "Zones") root ≡ Some zones → array_in (codes "Names") root ≡ None → root_steps root ≡ None
+unfolding root_steps
+no_names root zones z n = rw (z, n) refl
+
+pub no_regions : (root : Resource) (zones names : List Resource) → array_in (codes "Zones") root ≡ Some zones → array_in (codes "Names") root ≡ Some names → array_in (codes "Regions") root ≡ None → root_steps root ≡ None
+unfolding root_steps
+no_regions root zones names z n r = rw (z, n, r) refl
+
+pub no_table : (root : Resource) (zones names regions : List Resource) → array_in (codes "Zones") root ≡ Some zones → array_in (codes "Names") root ≡ Some names → array_in (codes "Regions") root ≡ Some regions
+    → table_in (codes "Rules") root ≡ None → root_steps root ≡ None
+unfolding root_steps
+no_table root zones names regions z n r t = rw (z, n, r, t) refl
+
+pub no_rules : (root : Resource) (zones names regions : List Resource) (entries : List (List ℕ × Resource)) → array_in (codes "Zones") root ≡ Some zones → array_in (codes "Names") root ≡ Some names → array_in (codes "Regions") root ≡ Some regions
+    → table_in (codes "Rules") root ≡ Some entries → rules_of entries ≡ None → root_steps root ≡ None
+unfolding root_steps
+no_rules root zones names regions entries z n r t all = rw (z, n, r, t, all) refl
