@@ -3,13 +3,13 @@ use Rattle.std.proofs.Common.{◌≡◌, ℕ, ◌+◌, ◌*◌, ◌≤◌, Bool,
 use Rattle.std.specs.Prelude.{slice_index}
 use Rattle.std.proofs.lemmas.Bool.{or_parts, ltb-false, le-leb}
 use Rattle.std.proofs.lemmas.List.{get_or_at}
-use Rattle.resb.specs.declared.resource.Resource.{Resource}
-use Rattle.resb.specs.declared.error.ResbError.{ResbError}
-use Rattle.resb.specs.declared.error.ResbError.TheVariants.{TooLarge, BadKey}
-use Rattle.resb.specs.Keys.{stands_in}
-use Rattle.resb.specs.Weight.{weight}
-use Rattle.resb.specs.Tree.{Body, body, tree_at, denoted}
-use Rattle.resb.specs.Header.{body_of, tree_of}
+use Rattle.resb_tree.specs.declared.resource.Resource.{Resource}
+use Rattle.resb_tree.specs.declared.error.ResbError.{ResbError}
+use Rattle.resb_tree.specs.declared.error.ResbError.TheVariants.{TooLarge, BadKey}
+use Rattle.resb_tree.specs.Keys.{stands_in}
+use Rattle.resb_tree.specs.Weight.{weight}
+use Rattle.resb_tree.specs.Tree.{Body, body, tree_at, denoted}
+use Rattle.resb_tree.specs.Header.{body_of, tree_of}
 use Rattle.resb.specs.Writing.{keys_met, key_pool, pool_bytes, pack_bytes, key_place, laid, most_of, most_entries, header, written_body, written, writing, all_keys, has_bad_key, depth, has_wide_integer, places_of, is_too_large}
 use Rattle.resb.specs.Laws.{has_typed_parts}
 use Rattle.resb.proofs.PackedWords.{StandIn, stand_front, stand_back, bytes_stand, length-pack_bytes}

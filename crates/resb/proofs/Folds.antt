@@ -2,11 +2,11 @@
 use Rattle.std.proofs.Common.{◌≡◌, ℕ, suc, ◌+◌, ◌*◌, List, [], ◌∷◌, ◌++◌, length, refl, sym, ap, ◌∙◌, max, not, Bool, false, ◌&&◌, ◌||◌}
 use Rattle.std.proofs.lemmas.List.{append-nil}
 use Rattle.std.specs.Prelude.{map, nat_lt}
-use Rattle.resb.specs.declared.resource.Resource.{Resource, fold-Resource, fold-roll-Resource}
-use Rattle.resb.specs.declared.resource.Resource.TheOpen.{Resource-F}
-use Rattle.resb.specs.declared.resource.Resource.TheVariants as r
-use Rattle.resb.specs.declared.resource.Resource.TheVariants.{rolls-Integer, rolls-Text, rolls-Bytes, rolls-Integers, rolls-Array, rolls-Table}
-use Rattle.resb.specs.Keys.{distinct, keys_in}
+use Rattle.resb_tree.specs.declared.resource.Resource.{Resource, fold-Resource, fold-roll-Resource}
+use Rattle.resb_tree.specs.declared.resource.Resource.TheOpen.{Resource-F}
+use Rattle.resb_tree.specs.declared.resource.Resource.TheVariants as r
+use Rattle.resb_tree.specs.declared.resource.Resource.TheVariants.{rolls-Integer, rolls-Text, rolls-Bytes, rolls-Integers, rolls-Array, rolls-Table}
+use Rattle.resb_tree.specs.Keys.{distinct, keys_in}
 use Rattle.resb.specs.Plan.{values_in, told_values}
 use Rattle.resb.specs.Writing.{layer_keys, keys_met, entry_keys, item_keys, layer_most, most_entries, most_of, layer_bad, has_bad_key, any_bad, all_keys, layer_depth, depth, layer_wide, has_wide_integer}
 

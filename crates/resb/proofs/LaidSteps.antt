@@ -3,9 +3,9 @@ use Rattle.std.proofs.Common.{◌≡◌, ℕ, suc, ◌+◌, ◌/◌, ◌<◌, �
 use Rattle.std.proofs.lemmas.List.{length-append, length-map}
 use Rattle.std.proofs.lemmas.Bool.Decides.{leb_tells}
 use Rattle.std.specs.Prelude.{map, nat_le}
-use Rattle.resb.specs.declared.resource.Resource.{Resource}
-use Rattle.resb.specs.declared.resource.Resource.TheVariants as r
-use Rattle.resb.specs.Keys.{keys_in}
+use Rattle.resb_tree.specs.declared.resource.Resource.{Resource}
+use Rattle.resb_tree.specs.declared.resource.Resource.TheVariants as r
+use Rattle.resb_tree.specs.Keys.{keys_in}
 use Rattle.resb.specs.Plan.{values_in, Fits, FitsAll}
 use Rattle.resb.specs.Writing.{laid, lay_all, most_of, pack_units}
 use Rattle.resb.proofs.LaidWords.{array_some, table_some, fits-rest, fits_cons, room-array, room-table, array_fits, table_fits, length-pack_units}

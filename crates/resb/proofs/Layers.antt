@@ -1,10 +1,10 @@
 -- What the layout of a tree, and the sizes of its parts, are at each variant.
 use Rattle.std.proofs.Common.{◌≡◌, ℕ, suc, true, List, [], ◌∷◌, length, refl, ap, ◌∙◌}
 use Rattle.std.specs.Prelude.{map}
-use Rattle.resb.specs.declared.resource.Resource.{Resource}
-use Rattle.resb.specs.declared.resource.Resource.TheVariants as r
-use Rattle.resb.specs.declared.resource.Resource.TheVariants.{rolls-Integer, rolls-Text, rolls-Bytes, rolls-Integers, rolls-Array, rolls-Table}
-use Rattle.resb.specs.Keys.{keys_in}
+use Rattle.resb_tree.specs.declared.resource.Resource.{Resource}
+use Rattle.resb_tree.specs.declared.resource.Resource.TheVariants as r
+use Rattle.resb_tree.specs.declared.resource.Resource.TheVariants.{rolls-Integer, rolls-Text, rolls-Bytes, rolls-Integers, rolls-Array, rolls-Table}
+use Rattle.resb_tree.specs.Keys.{keys_in}
 use Rattle.resb.specs.Writing.{item, text_laid, bytes_laid, integers_laid, array_laid, table_laid, layer_laid, laid}
 use Rattle.resb.specs.Plan.{values_in}
 use Rattle.resb.proofs.Folds.{fold-Text, fold-Bytes, fold-Integers, fold-Integer, fold-Array, fold-Table}

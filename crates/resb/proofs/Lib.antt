@@ -1,13 +1,3 @@
-pub mod Weights
-pub mod Runs
-pub mod Scans
-pub mod Spans
-pub mod KeyReads
-pub mod KeySets
-pub mod FirstEntries
-pub mod Limits
-pub mod Within
-pub mod Cases
 pub mod Folds
 pub mod Pools
 pub mod LaidWords

@@ -1,7 +1,7 @@
 -- Values that stand one after the other, and bytes and units packed in words.
 use Rattle.std.proofs.Common.{◌≡◌, ℕ, suc, ◌+◌, ◌*◌, ◌/◌, ◌%◌, ◌<◌, List, [], ◌∷◌, ◌++◌, length, refl, ◌∙◌, subst, arith}
 use Rattle.std.specs.Prelude.{slice_index}
-use Rattle.resb.specs.Words.{run, byte_in, unit_in}
+use Rattle.resb_tree.specs.Words.{run, byte_in, unit_in}
 use Rattle.resb.specs.Writing.{pack_bytes, pack_units}
 
 -- from a place on, a function gives these values

@@ -3,9 +3,9 @@ use Rattle.std.proofs.Common.{◌≡◌, ℕ, zero, suc, ◌+◌, ◌-◌, ◌*�
 use Rattle.std.specs.Str.{bytes_eq}
 use Rattle.std.proofs.lemmas.Bool.{cases_Bool, and_parts, and_from, ltb-true, ne_eqb, false≢true}
 use Rattle.std.proofs.lemmas.Slice.Eq.{bytes_eq-Decides}
-use Rattle.resb.specs.Keys.{stands_in}
-use Rattle.resb.specs.Words.{byte_in}
-use Rattle.resb.specs.Tree.{Body, key_from, key_at}
+use Rattle.resb_tree.specs.Keys.{stands_in}
+use Rattle.resb_tree.specs.Words.{byte_in}
+use Rattle.resb_tree.specs.Tree.{Body, key_from, key_at}
 use Rattle.resb.specs.Writing.{first_keys, pool_bytes, key_place, places_of, most_of, is_key, all_keys}
 use Rattle.resb.proofs.PackedWords.{Stand, Below, below_append, stand_front, stand_back}
 

@@ -10,12 +10,12 @@ use Rattle.std.proofs.lemmas.Bool.{lt-ltb}
 use Rattle.std.proofs.lemmas.List.{append-nil, length-append, map-append}
 use Rattle.std.proofs.lemmas.Map.Text.{btree_map_updates_str}
 use Rattle.std.proofs.lemmas.Slice.Eq.{bytes_eq-Decides}
-use Rattle.resb.specs.Keys.{stands_in}
-use Rattle.resb.specs.Tree.{◌>>=◌}
+use Rattle.resb_tree.specs.Keys.{stands_in}
+use Rattle.resb_tree.specs.Tree.{◌>>=◌}
 use Rattle.resb.specs.Pool.{bare, place_of, place_told, pool_end}
 use Rattle.resb.specs.Plan.{added, pooled}
 use Rattle.resb.specs.Writing.{key_place, pool_bytes, first_keys, places_of, most_of}
-use Rattle.resb.proofs.KeySets.{bytes_eq_sym}
+use Rattle.resb_tree.proofs.KeySets.{bytes_eq_sym}
 
 abbrev told_at : List (List ℕ) → ℕ → List ℕ → Option ℕ
 told_at keys at key = cond (stands_in key keys) (Some (key_place keys at key)) None

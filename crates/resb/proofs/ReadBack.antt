@@ -2,11 +2,11 @@
 use Rattle.std.proofs.Common.{◌≡◌, ℕ, suc, ◌+◌, ◌-◌, ◌*◌, ◌/◌, ◌%◌, ◌<◌, ◌≤◌, true, false, ltb, leb, eqb, List, [], ◌∷◌, ◌++◌, length, length-append, Option, Some, refl, ◌∙◌, subst, lit<, arith}
 use Rattle.std.specs.Prelude.{slice_index, map}
 use Rattle.std.proofs.lemmas.Bool.{and_parts, ltb-true, lt-ltb, le-leb, ne_eqb}
-use Rattle.resb.specs.declared.resource.Resource.{Resource}
-use Rattle.resb.specs.declared.resource.Resource.TheVariants as r
-use Rattle.resb.specs.Keys.{distinct, keys_in}
-use Rattle.resb.specs.Words.{run, byte_in, unit_in}
-use Rattle.resb.specs.Tree.{Body, counted, text_at, bytes_at, integers_at, all_of, array_at, key_at, entries_of, table16_at, by_type, tree_at}
+use Rattle.resb_tree.specs.declared.resource.Resource.{Resource}
+use Rattle.resb_tree.specs.declared.resource.Resource.TheVariants as r
+use Rattle.resb_tree.specs.Keys.{distinct, keys_in}
+use Rattle.resb_tree.specs.Words.{run, byte_in, unit_in}
+use Rattle.resb_tree.specs.Tree.{Body, counted, text_at, bytes_at, integers_at, all_of, array_at, key_at, entries_of, table16_at, by_type, tree_at}
 use Rattle.resb.specs.Writing.{pack_bytes, pack_units, item, Laid, text_laid, bytes_laid, integers_laid}
 use Rattle.resb.specs.Laws.{all_below}
 use Rattle.resb.proofs.PackedWords.{Stand, StandIn, Below, below_append, stand_front, stand_run, bytes_stand, units_stand, length-pack_units, length-pack_bytes}

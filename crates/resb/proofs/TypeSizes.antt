@@ -2,7 +2,7 @@
 use Rattle.std.proofs.Common.{◌≡◌, ℕ, zero, suc, ◌+◌, ◌<◌, Bool, true, List, [], ◌∷◌, length, get_or, take, Fits, w8, refl, ap, sym, ◌∙◌, subst, arith}
 use Rattle.std.specs.Prelude.{map}
 use Rattle.std.proofs.lemmas.Bool.{and_from, and_parts, lt-ltb}
-use Rattle.resb.specs.declared.resource.Resource.{Resource}
+use Rattle.resb_tree.specs.declared.resource.Resource.{Resource}
 use Rattle.resb.specs.Laws.{all_below, all_true}
 use Rattle.resb.specs.Plan.{values_in}
 use Rattle.std.proofs.Math.Facts.{Fits-lt-pow}

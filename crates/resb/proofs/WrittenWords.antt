@@ -6,15 +6,15 @@ use Rattle.std.proofs.lemmas.Bool.{lt-ltb, le-ltb}
 use Rattle.std.proofs.lemmas.Bool.Decides.{leb_tells}
 use Rattle.std.proofs.lemmas.List.{length-append}
 use Rattle.std.proofs.lemmas.Slice.Eq.{bytes_eq-Decides}
-use Rattle.resb.specs.declared.error.ResbError.{ResbError}
-use Rattle.resb.specs.declared.error.ResbError.TheVariants.{Memory, NoTree, TooLarge, BadKey}
-use Rattle.resb.specs.declared.resource.Resource.{Resource}
-use Rattle.resb.specs.Keys.{stands_in}
+use Rattle.resb_tree.specs.declared.error.ResbError.{ResbError}
+use Rattle.resb_tree.specs.declared.error.ResbError.TheVariants.{Memory, NoTree, TooLarge, BadKey}
+use Rattle.resb_tree.specs.declared.resource.Resource.{Resource}
+use Rattle.resb_tree.specs.Keys.{stands_in}
 use Rattle.resb.specs.Pool.{place_of, pool_end}
 use Rattle.resb.specs.Plan.{pooled, Fills, Fits, Suits, Refuses, keys_end}
-use Rattle.resb.specs.Weight.{weight, spent_by}
+use Rattle.resb_tree.specs.Weight.{weight, spent_by}
 use Rattle.resb.specs.Writing.{pack_bytes, pool_bytes, key_pool, keys_met, first_keys, key_place, places_of, most_of, most_entries, depth, has_wide_integer, has_bad_key, laid, header, written_body, written, is_too_large, writing, Writes}
-use Rattle.resb.proofs.KeySets.{bytes_eq_sym}
+use Rattle.resb_tree.proofs.KeySets.{bytes_eq_sym}
 use Rattle.resb.proofs.LaidWords.{left_false, right_false, length-pack_bytes}
 use Rattle.resb.proofs.Pools.{all_pooled, pooled_is}
 

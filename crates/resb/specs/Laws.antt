@@ -1,8 +1,8 @@
 -- What the definitions of words and trees keep.
 use Rattle.std.specs.Prelude.{◌≡◌, ℕ, Bool, true, false, Some, ◌&&◌, nat_lt, List, [], ◌∷◌, map}
-use Rattle.resb.specs.declared.resource.Resource.{Resource, fold-Resource}
-use Rattle.resb.specs.declared.resource.Resource.TheOpen.{Resource-F}
-use Rattle.resb.specs.Header.{tree_of}
+use Rattle.resb_tree.specs.declared.resource.Resource.{Resource, fold-Resource}
+use Rattle.resb_tree.specs.declared.resource.Resource.TheOpen.{Resource-F}
+use Rattle.resb_tree.specs.Header.{tree_of}
 use Rattle.resb.specs.Writing.{written, has_bad_key, is_too_large}
 
 abbrev pub all_below : ℕ → List ℕ → Bool

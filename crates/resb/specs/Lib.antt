@@ -1,14 +1,4 @@
-pub mod Words
-pub mod Weight
-pub mod Keys
-pub mod Tree
-pub mod Header
-pub mod Forms
-pub mod Reading
-pub mod Kept
-pub mod Fields
 pub mod Writing
 pub mod Pool
 pub mod Plan
-pub mod Texts
 pub mod Laws

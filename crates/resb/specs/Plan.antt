@@ -1,15 +1,15 @@
 -- The keys' places and the limits of the words that are written.
 use Rattle.std.specs.Prelude.{◌≡◌, ℕ, ◌+◌, ◌*◌, ◌≤◌, false, List, [], ◌∷◌, ◌++◌, length, map, Option, Some, None, Result, Ok, Err, if◌then◌else◌, nat_lt}
-use Rattle.resb.specs.Keys.{stands_in}
+use Rattle.resb_tree.specs.Keys.{stands_in}
 use Rattle.resb.specs.Pool.{bare, place_of, pool_end}
-use Rattle.resb.specs.Tree.{◌>>=◌}
-use Rattle.resb.specs.Weight.{weight}
+use Rattle.resb_tree.specs.Tree.{◌>>=◌}
+use Rattle.resb_tree.specs.Weight.{weight}
 use Rattle.resb.specs.Writing.{keys_met, item_keys, pack_bytes, pool_bytes, key_pool, written, laid, lay_all, most_of, most_entries, any_bad, has_wide_integer}
-use Rattle.resb.specs.declared.error.ResbError.{ResbError}
-use Rattle.resb.specs.declared.error.ResbError.TheVariants.{Memory, NoTree, TooLarge, BadKey}
+use Rattle.resb_tree.specs.declared.error.ResbError.{ResbError}
+use Rattle.resb_tree.specs.declared.error.ResbError.TheVariants.{Memory, NoTree, TooLarge, BadKey}
 use Rattle.resb.specs.declared.pool.KeyPool.{KeyPool}
-use Rattle.resb.specs.declared.resource.Resource.{Resource}
-use Rattle.resb.specs.declared.resource.Resource.TheVariants as r
+use Rattle.resb_tree.specs.declared.resource.Resource.{Resource}
+use Rattle.resb_tree.specs.declared.resource.Resource.TheVariants as r
 
 -- the values of entries
 abbrev pub values_in : {A : Type 0} → List (List ℕ × A) → List A

@@ -1,7 +1,7 @@
 -- The pool of keys: where each begins.
 use Rattle.std.specs.Prelude.{ℕ, ◌+◌, List, length, map, Option, Some, None, if◌then◌else◌}
 use Rattle.std.specs.Borrow.{Bor}
-use Rattle.resb.specs.Keys.{stands_in}
+use Rattle.resb_tree.specs.Keys.{stands_in}
 use Rattle.resb.specs.Writing.{key_place, pool_bytes}
 
 -- borrowed keys, as the keys

@@ -1,12 +1,12 @@
 -- The words that are written for a tree (docs/FORMATS.md, "The writer").
 use Rattle.std.specs.Prelude.{◌≡◌, ℕ, ◌+◌, ◌*◌, Bool, true, false, not, ◌&&◌, ◌||◌, nat_lt, if◌then◌else◌, max, List, [], ◌∷◌, ◌++◌, length, map, Result, Ok, Err}
 use Rattle.std.specs.Str.{bytes_eq}
-use Rattle.resb.specs.Keys.{stands_in, distinct}
-use Rattle.resb.specs.Weight.{weight}
-use Rattle.resb.specs.declared.error.ResbError.{ResbError}
-use Rattle.resb.specs.declared.error.ResbError.TheVariants.{Memory, TooLarge, BadKey}
-use Rattle.resb.specs.declared.resource.Resource.{Resource, fold-Resource}
-use Rattle.resb.specs.declared.resource.Resource.TheOpen.{Resource-F}
+use Rattle.resb_tree.specs.Keys.{stands_in, distinct}
+use Rattle.resb_tree.specs.Weight.{weight}
+use Rattle.resb_tree.specs.declared.error.ResbError.{ResbError}
+use Rattle.resb_tree.specs.declared.error.ResbError.TheVariants.{Memory, TooLarge, BadKey}
+use Rattle.resb_tree.specs.declared.resource.Resource.{Resource, fold-Resource}
+use Rattle.resb_tree.specs.declared.resource.Resource.TheOpen.{Resource-F}
 
 -- ---- words of bytes and of units, low ones first; zeros fill the last word
 

@@ -1,13 +1,11 @@
 ghost use Rattle.std.specs.Prelude.{◌≡◌, ℕ, [], ◌++◌, map, OnOk, IfOk};
-ghost use Rattle.resb.specs.Keys.{keys_in};
+ghost use Rattle.resb_tree.specs.Keys.{keys_in};
 ghost use Rattle.resb.specs.Pool.{bare, place_of};
 ghost use Rattle.resb.specs.Plan.{told_values, added, pooled, Fills};
 ghost use Rattle.resb.specs.Writing.{keys_met, item_keys, entry_keys, pool_bytes, key_pool};
 
-use crate::error::ResbError;
-use crate::key::Key;
 use crate::pool::KeyPool;
-use crate::resource::Resource;
+use resb_tree::{Key, ResbError, Resource};
 use sqlite_items::Items;
 use std::alloc::{AllocError, Global};
 use std::collections::BTreeMap;

@@ -1,14 +1,12 @@
 ghost use Rattle.std.specs.Prelude.{◌≡◌, ℕ, ◌+◌, ◌≤◌, [], ◌∷◌, ◌++◌, map, nat_le, length, OnOk, IfOk, IfErr};
-ghost use Rattle.resb.specs.Keys.{keys_in};
+ghost use Rattle.resb_tree.specs.Keys.{keys_in};
 ghost use Rattle.resb.specs.Pool.{bare, place_of};
 ghost use Rattle.resb.specs.Plan.{values_in, no_places, places_in, array_of, table_of, Fits, FitsAll, Refuses};
 ghost use Rattle.resb.specs.Writing.{laid, lay_all, most_of, text_laid, bytes_laid, integers_laid};
 
-use crate::error::ResbError;
-use crate::key::Key;
 use crate::packing::{push_bytes, push_units};
 use crate::pool::KeyPool;
-use crate::resource::Resource;
+use resb_tree::{Key, ResbError, Resource};
 use sqlite_items::Items;
 use std::alloc::Global;
 

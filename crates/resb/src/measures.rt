@@ -1,12 +1,10 @@
 ghost use Rattle.std.specs.Prelude.{◌≡◌, ◌+◌, ◌&&◌, map, nat_lt, length, Some, None, IfOk};
-ghost use Rattle.resb.specs.Keys.{keys_in};
+ghost use Rattle.resb_tree.specs.Keys.{keys_in};
 ghost use Rattle.resb.specs.Plan.{values_in};
-ghost use Rattle.resb.specs.Weight.{weight, weights, entry_weights, spent_by};
+ghost use Rattle.resb_tree.specs.Weight.{weight, weights, entry_weights, spent_by};
 ghost use Rattle.resb.specs.Writing.{most_of, most_entries, depth, is_key, all_keys, any_bad, has_bad_key};
 
-use crate::key::Key;
-use crate::keys::are_distinct;
-use crate::resource::Resource;
+use resb_tree::{Key, Resource, are_distinct};
 use sqlite_items::Items;
 use std::alloc::{AllocError, Global};
 
@@ -47,7 +45,7 @@ fn weigh_entries(entries: &[(Key, Resource)], limit: usize) -> Option<usize>
 
 /// What a tree's weight leaves of a limit, where that is enough.
 #[cycle(weigh)]
-#[tactic(auto, using(crate::proofs::Weights::weighing))]
+#[tactic(auto, using(resb_tree::proofs::Weights::weighing))]
 pub fn weigh(tree: &Resource, limit: usize) -> Option<usize>
     ensures { result ≡ spent_by limit (weight tree.now) }
 {

@@ -1,9 +1,8 @@
 ghost use Rattle.std.specs.Prelude.{◌≡◌, ℕ, List, true, map};
-ghost use Rattle.resb.specs.declared.resource.Resource.{Resource};
+ghost use Rattle.resb_tree.specs.declared.resource.Resource.{Resource};
 ghost use Rattle.resb.specs.Laws.{all_below, all_true, has_typed_parts};
 
-use crate::key::Key;
-use crate::resource::Resource;
+use resb_tree::{Key, Resource};
 use sqlite_items::Items;
 
 /// The units of a text have 16 bits.

@@ -1,8 +1,9 @@
 use super::*;
-use crate::tests::{ONE_ZONE, TEST_PLUS2};
 use sqlite_items::Items;
 use std::alloc::{AllocError, Global};
 use std::test::Fail;
+
+const HEADER: [u32; 6] = [0x27da_0018, 0x14, 0x0002_0000, 0x4273_6552, 2, 0];
 
 fn text(alloc: Global, units: &[u16]) -> Result<Resource, AllocError> {
     Ok(Resource::Text(Items::from_slice(alloc, units)?))
@@ -32,7 +33,8 @@ fn one_zone(alloc: Global) -> Result<Resource, AllocError> {
     let offsets = Resource::Integers(Items::from_slice(alloc, &[7200, 0])?);
     zone.push((Key::from_slice(alloc, b"typeOffsets")?, offsets))?;
     let zones = array(alloc, Resource::Table(zone))?;
-    let names = array(alloc, text(alloc, TEST_PLUS2.as_slice())?)?;
+    let test_plus2 = [84, 101, 115, 116, 47, 80, 108, 117, 115, 50];
+    let names = array(alloc, text(alloc, test_plus2.as_slice())?)?;
     let regions = array(alloc, text(alloc, &[48, 48, 49])?)?;
     let mut root = Items::new(alloc);
     root.push((Key::from_slice(alloc, b"Zones")?, zones))?;
@@ -60,17 +62,36 @@ fn is_refused(answer: Result<Vec<u32>, ResbError>, why: ResbError) -> bool {
 
 /// Whether the words behind the header are these.
 fn has_body(words: &[u32], body: &[u32]) -> bool {
-    words.len() > 6 && &words[..6] == &ONE_ZONE[..6] && &words[6..] == body
+    words.len() > 6 && &words[..6] == HEADER.as_slice() && &words[6..] == body
 }
 
+/// Whether there are 52 words, with this index behind the header and these words at the end.
+fn has_ends(words: &[u32], index: &[u32], end: &[u32]) -> bool {
+    words.len() == 52
+        && &words[..6] == HEADER.as_slice()
+        && &words[6..14] == index
+        && &words[45..] == end
+}
+
+/// `proofs/OneZone.antt` has all its words; here are those that say where each part stands.
 #[test]
 fn writes_one_zone(rt: HostRuntime) -> Result<(), Fail> {
     let alloc = rt.alloc();
     let words = write(alloc, &one_zone(alloc)?)?;
-    assert_eq!(rt; words.as_slice(), ONE_ZONE.as_slice());
+    let index = [0x2000_0027, 7, 18, 46, 46, 4, 0, 18];
+    let root = [
+        0x0020_0004,
+        0x0038_0032,
+        0x3e,
+        0x8000_0017,
+        0x8000_0020,
+        0x2000_0000,
+        0x8000_0025,
+    ];
+    assert!(rt; has_ends(words.as_slice(), index.as_slice(), root.as_slice()));
     let tree = read(alloc, words.as_slice())?;
     let again = write(alloc, &tree)?;
-    assert_eq!(rt; again.as_slice(), ONE_ZONE.as_slice());
+    assert_eq!(rt; again.as_slice(), words.as_slice());
     Ok(())
 }
 
@@ -220,21 +241,5 @@ fn writes_tables(rt: HostRuntime) -> Result<(), Fail> {
         0x2000_000b,
     ];
     assert!(rt; has_body(words.as_slice(), both.as_slice()));
-    Ok(())
-}
-
-#[test]
-fn prints_errors(rt: HostRuntime) -> Result<(), Fail> {
-    let alloc = rt.alloc();
-    let errors = [
-        (ResbError::Memory, "memory could not be found"),
-        (ResbError::NoTree, "no resource tree"),
-        (ResbError::TooLarge, "tree too large"),
-        (ResbError::BadKey, "bad key"),
-    ];
-    for (error, told) in errors {
-        let printed = format!(in alloc; "{error}")?;
-        assert_eq!(rt; printed.as_str(), told);
-    }
     Ok(())
 }

@@ -2,17 +2,16 @@ ghost use Rattle.std.specs.Prelude.{Vec, ℕ, ◌≡◌, ◌+◌, ◌++◌, ◌�
 ghost use Rattle.std.specs.Global.{Global};
 ghost use Rattle.resb.specs.Pool.{bare};
 ghost use Rattle.resb.specs.Plan.{Suits, Refuses};
-ghost use Rattle.resb.specs.Header.{tree_of};
+ghost use Rattle.resb_tree.specs.Header.{tree_of};
 ghost use Rattle.resb.specs.Writing.{pack_bytes, pool_bytes, key_pool, header, written, writing, Writes};
 
-use crate::error::ResbError;
 use crate::key_pool::key_pool;
 use crate::laying::{MOST_WORDS, lay};
 use crate::measures::{has_bad_key, is_deeper, most_entries, weigh};
 use crate::packing::push_bytes;
 use crate::pool::KeyPool;
-use crate::resource::Resource;
 use crate::typed::parts_typed;
+use resb_tree::{ResbError, Resource};
 use std::alloc::{AllocError, Global};
 
 /// How deep a tree may be.

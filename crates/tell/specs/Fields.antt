@@ -2,7 +2,7 @@
 use Rattle.std.specs.Prelude.{ℕ, ◌+◌, ◌-◌, ◌*◌, ◌==◌, nat_le, if◌then◌else◌, ◌&&◌, List, [], ◌∷◌, length, take, drop, Option, Some, None, ℤ, pos, neg_ℤ, codes, position}
 use Rattle.std.specs.Option.{option_map}
 use Rattle.std.specs.Str.{bytes_eq, is_utf8}
-use Rattle.resb.specs.Tree.{◌>>=◌}
+use Rattle.resb_tree.specs.Tree.{◌>>=◌}
 use Rattle.tell.specs.declared.fields.Dialect.{Dialect}
 use Rattle.tell.specs.declared.fields.Dialect.TheVariants.{Uk, Us}
 

@@ -1,11 +1,11 @@
 -- A bundle is read step by step.
 use Rattle.std.proofs.Common.{◌≡◌, ℕ, suc, nat_le, ◌<◌, ◌≤◌, eqb, Bool, true, false, cond, ◌&&◌, List, [], ◌∷◌, length, Option, Some, None, IsSome, Err, ℤ, ◌+ℤ◌, refl, sym, ap, ◌∙◌, codes, arith}
 use Rattle.std.proofs.lemmas.Bool.{and_parts, eq-eqb, leb-true, ltb-true}
-use Rattle.resb.specs.Tree.{◌>>=◌, when}
-use Rattle.resb.specs.Header.{tree_of}
-use Rattle.resb.specs.Fields.{field_layer, entries_in, entries_layer, index_in}
-use Rattle.resb.specs.declared.resource.Resource.{Resource, out-Resource}
-use Rattle.resb.specs.declared.resource.Resource.TheOpen.{Resource-F}
+use Rattle.resb_tree.specs.Tree.{◌>>=◌, when}
+use Rattle.resb_tree.specs.Header.{tree_of}
+use Rattle.resb_tree.specs.Fields.{field_layer, entries_in, entries_layer, index_in}
+use Rattle.resb_tree.specs.declared.resource.Resource.{Resource, out-Resource}
+use Rattle.resb_tree.specs.declared.resource.Resource.TheOpen.{Resource-F}
 use Rattle.zoneinfo64.specs.declared.error.BinaryDeserializerError.{BinaryDeserializerError}
 use Rattle.zoneinfo64.specs.declared.error.BinaryDeserializerError.TheVariants as errors
 use Rattle.zoneinfo64.specs.Zone.{RawRule}

@@ -1,6 +1,6 @@
 -- Rules by their dates.
 use Rattle.std.proofs.Common.{◌≡◌, ℕ, ◌<◌, ◌≤◌, true, false, List, [], ◌∷◌, length, get_or, Option, Some, None, ℤ, refl, ap, ◌∙◌, arith}
-use Rattle.resb.specs.Tree.{◌>>=◌}
+use Rattle.resb_tree.specs.Tree.{◌>>=◌}
 use Rattle.zoneinfo64.specs.Bundle.{as_i32, date_rule, raw_rule}
 use Rattle.zoneinfo64.specs.Zone.{DateRule, RawRule}
 use Rattle.zoneinfo64.specs.RuleView.{is_date, date_from, by_dates}

@@ -1,6 +1,6 @@
 -- The root of a bundle, from which the arrays are taken one after the other.
 use Rattle.std.proofs.Common.{◌≡◌, ℕ, List, Option, Some, None, Err, refl, codes}
-use Rattle.resb.specs.declared.resource.Resource.{Resource}
+use Rattle.resb_tree.specs.declared.resource.Resource.{Resource}
 use Rattle.zoneinfo64.specs.declared.error.BinaryDeserializerError.{BinaryDeserializerError}
 use Rattle.zoneinfo64.specs.declared.error.BinaryDeserializerError.TheVariants as errors
 use Rattle.zoneinfo64.specs.Zone.{RawRule}

@@ -9,9 +9,9 @@ use Rattle.std.specs.Str.{bytes_eq}
 use Rattle.std.specs.Map.{lookup}
 use Rattle.std.specs.BTreeMap.{BTreeMap, insert_entry}
 use Rattle.std.proofs.lemmas.Cmp.{alike_right}
-use Rattle.resb.specs.Tree.{◌>>=◌}
-use Rattle.resb.specs.Fields.{integers_in}
-use Rattle.resb.specs.declared.resource.Resource.{Resource}
+use Rattle.resb_tree.specs.Tree.{◌>>=◌}
+use Rattle.resb_tree.specs.Fields.{integers_in}
+use Rattle.resb_tree.specs.declared.resource.Resource.{Resource}
 use Rattle.zoneinfo64.specs.declared.error.BinaryDeserializerError.{BinaryDeserializerError}
 use Rattle.zoneinfo64.specs.declared.error.BinaryDeserializerError.TheVariants as errors
 use Rattle.zoneinfo64.specs.declared.rule.RuleDates.{RuleDates}

@@ -1,7 +1,7 @@
 -- A zone from what was read of it.
 use Rattle.std.proofs.Common.{◌≡◌, ℕ, List, length, Option, Some, ℤ, false, IfSome, refl, sym, subst, codes}
 use Rattle.std.specs.Str.{bytes_eq}
-use Rattle.resb.specs.declared.resource.Resource.{Resource}
+use Rattle.resb_tree.specs.declared.resource.Resource.{Resource}
 use Rattle.zoneinfo64.specs.declared.offset.Offset.{Offset}
 use Rattle.zoneinfo64.specs.declared.offset.Transition.{Transition}
 use Rattle.zoneinfo64.specs.Zone.{RawRule, PlainRule}

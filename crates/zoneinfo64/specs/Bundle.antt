@@ -4,10 +4,10 @@ use Rattle.std.specs.Ordering.{nat_cmp, int_eq, is_lt}
 use Rattle.std.specs.Cmp.Lexicographic.{slice_cmp}
 use Rattle.std.specs.Str.{bytes_eq}
 use Rattle.std.specs.Char.Utf16.{utf16_lossy_chars}
-use Rattle.resb.specs.Tree.{◌>>=◌, when}
-use Rattle.resb.specs.Header.{tree_of}
-use Rattle.resb.specs.Fields.{field_in, text_in, bytes_in, integers_in, items_in, entries_in, index_in, signed_in}
-use Rattle.resb.specs.declared.resource.Resource.{Resource}
+use Rattle.resb_tree.specs.Tree.{◌>>=◌, when}
+use Rattle.resb_tree.specs.Header.{tree_of}
+use Rattle.resb_tree.specs.Fields.{field_in, text_in, bytes_in, integers_in, items_in, entries_in, index_in, signed_in}
+use Rattle.resb_tree.specs.declared.resource.Resource.{Resource}
 use Rattle.zoneinfo64.specs.declared.offset.Offset.{Offset}
 use Rattle.zoneinfo64.specs.declared.offset.Transition.{Transition}
 use Rattle.zoneinfo64.specs.Zone.{DateRule, RawRule, PlainRule, PlainZone}

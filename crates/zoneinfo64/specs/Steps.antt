@@ -7,9 +7,9 @@ use Rattle.std.specs.Borrow.{Bor}
 use Rattle.std.specs.Str.{bytes_eq}
 use Rattle.std.specs.declared.alloc.Global.{Global}
 use Rattle.std.specs.BTreeMap.{BTreeMap}
-use Rattle.resb.specs.Tree.{◌>>=◌, when}
-use Rattle.resb.specs.Fields.{field_in, text_in, bytes_in, integers_in, items_in, entries_in, index_in, signed_in}
-use Rattle.resb.specs.declared.resource.Resource.{Resource}
+use Rattle.resb_tree.specs.Tree.{◌>>=◌, when}
+use Rattle.resb_tree.specs.Fields.{field_in, text_in, bytes_in, integers_in, items_in, entries_in, index_in, signed_in}
+use Rattle.resb_tree.specs.declared.resource.Resource.{Resource}
 use Rattle.zoneinfo64.specs.declared.error.BinaryDeserializerError.{BinaryDeserializerError}
 use Rattle.zoneinfo64.specs.declared.error.BinaryDeserializerError.TheVariants as errors
 use Rattle.zoneinfo64.specs.declared.offset.Offset.{Offset}

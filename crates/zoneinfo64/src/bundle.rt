@@ -1,7 +1,7 @@
 //! The zones of a bundle.
 ghost use Rattle.std.specs.Prelude.{◌≡◌, length, All, IfOk, is_some};
 ghost use Rattle.zoneinfo64.specs.NamedZone.{zone_at};
-ghost use Rattle.resb.specs.Header.{tree_of};
+ghost use Rattle.resb_tree.specs.Header.{tree_of};
 ghost use Rattle.zoneinfo64.specs.Bundle.{rises, is_resolved, all_resolved};
 ghost use Rattle.zoneinfo64.specs.RuleView.{rule_for};
 ghost use Rattle.zoneinfo64.specs.Steps.{Reads, place_steps, named_steps, list_steps, array_in, table_in, Leaves, is_before, are_arrays, checked_steps, root_steps};

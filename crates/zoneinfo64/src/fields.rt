@@ -1,6 +1,6 @@
 //! The fields of a zone.
 ghost use Rattle.std.specs.Prelude.{◌≡◌, ℕ, ◌+◌, ◌+ℤ◌, ◌≤◌, map, IsTrue, IfOk, IfSome, length, slice_get, vec_len, vec_capacity};
-ghost use Rattle.resb.specs.Fields.{field_in, integers_in};
+ghost use Rattle.resb_tree.specs.Fields.{field_in, integers_in};
 ghost use Rattle.zoneinfo64.specs.Bundle.{as_i32, fits_i32, pair_offset, sums_fit, table_of, region_byte, region_of_chars};
 ghost use Rattle.zoneinfo64.specs.RuleView.{rule_for};
 ghost use Rattle.zoneinfo64.specs.Steps.{Reads, pair_of, offset_steps, type_offsets, initial_of, integers_at, bytes_at, wide, wide_second, wide_at, seconds_of, transition_to, Leaves, GoesOn, used_rule, zone_rule, zone_steps};

@@ -1,6 +1,6 @@
 //! Yearly rules.
 ghost use Rattle.std.specs.Prelude.{◌≡◌, ◌+ℤ◌, ◌≤◌, ◌&&◌, option_map, unsigned_abs};
-ghost use Rattle.resb.specs.Tree.{when};
+ghost use Rattle.resb_tree.specs.Tree.{when};
 ghost use Rattle.zoneinfo64.specs.Bundle.{as_i32, fits_i32, longest_month, between, is_rule_day, date_rule, raw_rule, plain_rule};
 ghost use Rattle.zoneinfo64.specs.RuleView.{plain_date, raw_of, is_date, date_from, by_dates};
 

@@ -1,7 +1,7 @@
 //! The rules of a bundle by their keys.
 ghost use Rattle.std.specs.Prelude.{◌≡◌, IfOk, option_map};
 ghost use Rattle.std.specs.Option.{option_copied};
-ghost use Rattle.resb.specs.Fields.{integers_in};
+ghost use Rattle.resb_tree.specs.Fields.{integers_in};
 ghost use Rattle.zoneinfo64.specs.Bundle.{rules_of, raw_rule};
 ghost use Rattle.zoneinfo64.specs.RuleView.{rule_for, raw_of};
 ghost use Rattle.zoneinfo64.specs.Steps.{Reads, ReadsRules, rule_in};

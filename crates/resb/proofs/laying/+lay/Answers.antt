@@ -1,7 +1,7 @@
 use Rattle.std.proofs.Common.{rules, ◌≡◌, ◌+◌, ◌≤◌, ◌<◌, drop, length, refl, sym, arith}
 use Rattle.std.proofs.lemmas.List.{append-nil}
 use Rattle.std.specs.Prelude.{map, IfErr, vec_len}
-use Rattle.resb.specs.Keys.{keys_in}
+use Rattle.resb_tree.specs.Keys.{keys_in}
 use Rattle.resb.specs.Writing.{most_of}
 use Rattle.resb.specs.Plan.{values_in, places_in, Fits, FitsAll, Refuses}
 use Rattle.resb.proofs.LaidWords.{laid-Text, laid-Bytes, laid-Integers, laid-Integer, array_none, table_none, fits-first, fits-array, fits-values, fits-keys, fits-count, fits-text, fits-bytes, fits-integers, fits-integer, refused_too, refused_on, on_ok, no_array_fits, no_table_fits, text_fits, bytes_fits, integers_fits, integer_fits}

@@ -1,6 +1,6 @@
 use Rattle.std.proofs.Common.{◌≡◌, ◌≤◌, ◌∷◌, ◌++◌, drop, length}
 use Rattle.std.specs.Prelude.{map}
-use Rattle.resb.specs.Keys.{keys_in}
+use Rattle.resb_tree.specs.Keys.{keys_in}
 use Rattle.resb.specs.Plan.{places_in}
 use Rattle.resb.specs.Writing.{most_of}
 use Rattle.resb.proofs.laying.key_units.Given as goal

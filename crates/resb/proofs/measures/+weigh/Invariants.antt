@@ -1,5 +1,5 @@
 use Rattle.std.proofs.Common.{◌≡◌, drop}
-use Rattle.resb.specs.Weight.{weights, entry_weights, spent_by}
+use Rattle.resb_tree.specs.Weight.{weights, entry_weights, spent_by}
 use Rattle.resb.proofs.measures.+weigh.Given as goal
 
 abbrev pub invariant-weigh_items-loop-item : goal.invariant-weigh_items-loop-item

@@ -1,5 +1,5 @@
 use Rattle.std.proofs.Common.{◌≡◌, drop}
-use Rattle.resb.specs.Keys.{keys_in}
+use Rattle.resb_tree.specs.Keys.{keys_in}
 use Rattle.resb.specs.Writing.{all_keys}
 use Rattle.resb.proofs.measures.all_keys.Given as goal
 

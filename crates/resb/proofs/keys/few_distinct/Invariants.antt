@@ -1,6 +1,0 @@
-use Rattle.std.proofs.Common.{◌≡◌, drop}
-use Rattle.resb.specs.Keys.{distinct, keys_in}
-use Rattle.resb.proofs.keys.few_distinct.Given as goal
-
-abbrev pub invariant-loop-at : goal.invariant-loop-at
-invariant-loop-at l = distinct (keys_in (drop l.at l.entries)) ≡ distinct (keys_in l.entries)

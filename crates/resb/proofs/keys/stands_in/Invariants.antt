@@ -1,6 +1,0 @@
-use Rattle.std.proofs.Common.{◌≡◌, drop}
-use Rattle.resb.specs.Keys.{stands_in, keys_in}
-use Rattle.resb.proofs.keys.stands_in.Given as goal
-
-abbrev pub invariant-loop-name : goal.invariant-loop-name
-invariant-loop-name l = stands_in l.key (keys_in (drop l.name-index l.entries)) ≡ stands_in l.key (keys_in l.entries)

@@ -1,0 +1,50 @@
+-- Looking for a zero value, one place after the other.
+use Rattle.std.proofs.Common.{◌≡◌, ◌≢◌, ℕ, suc, ◌+◌, ◌-◌, ◌<◌, ◌≤◌, Some, None, refl, eqb, false, inl, inr, arith}
+use Rattle.std.proofs.lemmas.Bool.{lt-ltb, le-ltb}
+use Rattle.std.proofs.lemmas.Bool.Decides.{eqb_tells}
+use Rattle.resb_tree.specs.Reading.{zero_from, key_stop}
+
+pub ne-eqb : (a b : ℕ) → a ≢ b → eqb a b ≡ false
+ne-eqb a b h = elim (eqb_tells a b) [ inl e ↦ absurd (h e.1) | inr e ↦ e.0 ]
+
+more_left : (i end : ℕ) → i < end → end - i ≡ suc (end - (i + 1))
+more_left i end lt = omega arith
+
+none_left : (i end : ℕ) → end ≤ i → end - i ≡ 0
+none_left i end le = omega arith
+
+pub zero_ends : (unit : ℕ → ℕ) (i end u : ℕ) → i < end → u ≡ unit i → u ≡ 0 → zero_from unit i (end - i) ≡ Some i
+unfolding zero_from
+zero_ends unit i end u lt e z = let k = more_left i end lt in rw (k, ← e, z) refl
+
+pub zero_on : (unit : ℕ → ℕ) (i end u : ℕ) → i < end → u ≡ unit i → u ≢ 0 → zero_from unit i (end - i) ≡ zero_from unit (i + 1) (end - (i + 1))
+unfolding zero_from
+zero_on unit i end u lt e nz = let k = more_left i end lt in let z = ne-eqb u 0 nz in rw (k, ← e, z) refl
+
+pub zero_never : (unit : ℕ → ℕ) (i end : ℕ) → end ≤ i → zero_from unit i (end - i) ≡ None
+unfolding zero_from
+zero_never unit i end le = let k = none_left i end le in rw k refl
+
+pub key_ends : (byte : ℕ → ℕ) (i end b : ℕ) → i < end → b ≡ byte i → b ≡ 0 → key_stop byte i (end - i) ≡ Some i
+unfolding key_stop
+key_ends byte i end b lt e z = let k = more_left i end lt in rw (k, ← e, z) refl
+
+pub key_on : (byte : ℕ → ℕ) (i end b : ℕ) → i < end → b ≡ byte i → b ≢ 0 → b < 128 → key_stop byte i (end - i) ≡ key_stop byte (i + 1) (end - (i + 1))
+unfolding key_stop
+key_on byte i end b lt e nz small =
+    let k = more_left i end lt in
+    let z = ne-eqb b 0 nz in
+    let s = lt-ltb b 128 small in
+    rw (k, ← e, z, s) refl
+
+pub key_bad : (byte : ℕ → ℕ) (i end b : ℕ) → i < end → b ≡ byte i → b ≢ 0 → 128 ≤ b → key_stop byte i (end - i) ≡ None
+unfolding key_stop
+key_bad byte i end b lt e nz big =
+    let k = more_left i end lt in
+    let z = ne-eqb b 0 nz in
+    let s = le-ltb b 128 big in
+    rw (k, ← e, z, s) refl
+
+pub key_never : (byte : ℕ → ℕ) (i end : ℕ) → end ≤ i → key_stop byte i (end - i) ≡ None
+unfolding key_stop
+key_never byte i end le = let k = none_left i end le in rw k refl

@@ -1,0 +1,62 @@
+-- Where the items of an array, and the key places and items of a table, stand.
+use Rattle.std.specs.Prelude.{ℕ, ◌+◌, ◌*◌, ◌/◌, Bool, false, ◌&&◌, slice_index, Option, Some, None, if◌then◌else◌, ◌==◌, ◌≤◌, nat_le, nat_lt}
+use Rattle.resb_tree.specs.Words.{unit_in}
+use Rattle.resb_tree.specs.Tree.{Body, body, area_len, area_unit, text_item, counted, area_counted}
+use Rattle.resb_tree.specs.declared.body.BodyWords.{BodyWords}
+use Rattle.resb_tree.specs.declared.forms.ArrayForm.{ArrayForm}
+use Rattle.resb_tree.specs.declared.forms.ArrayForm.TheVariants as array
+use Rattle.resb_tree.specs.declared.forms.TableForm.{TableForm}
+use Rattle.resb_tree.specs.declared.forms.TableForm.TheVariants as table
+
+-- the words and ends of a body
+abbrev pub told : BodyWords → Body
+told b = body b.words.now b.keys_end b.area_end b.end
+
+-- ---- arrays
+
+-- the item at a place
+abbrev pub item_in : ArrayForm → Body → ℕ → ℕ
+item_in array.Long b = slice_index b.words
+item_in array.Short b = text_item b
+
+-- where the places end
+abbrev pub items_end : ArrayForm → Body → ℕ
+items_end array.Long b = b.end
+items_end array.Short b = area_len b
+
+-- a long array has no words where its place is 0
+abbrev pub no_items : ArrayForm → ℕ → Bool
+no_items array.Long v = v == 0
+no_items array.Short v = false
+
+abbrev pub array_count : ArrayForm → Body → ℕ → Option ℕ
+array_count array.Long b v = counted b v 1
+array_count array.Short b v = area_counted b v 1
+
+-- ---- tables
+
+-- the key place and the item of an entry
+abbrev pub entry_in : TableForm → Body → ℕ → ℕ → ℕ → ℕ × ℕ
+entry_in table.Narrow b v count k = (unit_in b.words (2 * v + 1 + k), slice_index b.words (v + (count + 2) / 2 + k))
+entry_in table.Wide b v count k = (slice_index b.words (v + 1 + k), slice_index b.words (v + 1 + count + k))
+entry_in table.Brief b v count k = (area_unit b (v + 1 + k), text_item b (v + 1 + count + k))
+
+abbrev pub no_entries : TableForm → ℕ → Bool
+no_entries table.Narrow v = v == 0
+no_entries table.Wide v = v == 0
+no_entries table.Brief v = false
+
+-- so many entries lie where they may
+abbrev pub EntriesLie : TableForm → Body → ℕ → ℕ → Type 0
+EntriesLie table.Narrow b v count = v + (count + 2) / 2 + count ≤ b.end
+EntriesLie table.Wide b v count = v + 1 + 2 * count ≤ b.end
+EntriesLie table.Brief b v count = v + 1 + 2 * count ≤ area_len b
+
+abbrev pub table_count : TableForm → Body → ℕ → Option ℕ
+table_count table.Narrow b v =
+    let count = unit_in b.words (2 * v) in
+    if nat_lt v b.end && nat_le (v + (count + 2) / 2 + count) b.end then Some count else None
+table_count table.Wide b v =
+    let count = slice_index b.words v in
+    if nat_lt v b.end && nat_le (v + 1 + 2 * count) b.end then Some count else None
+table_count table.Brief b v = area_counted b v 2

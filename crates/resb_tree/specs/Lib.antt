@@ -1,0 +1,10 @@
+pub mod Words
+pub mod Weight
+pub mod Keys
+pub mod Tree
+pub mod Header
+pub mod Forms
+pub mod Reading
+pub mod Kept
+pub mod Fields
+pub mod Texts

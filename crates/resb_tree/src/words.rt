@@ -1,0 +1,97 @@
+ghost use Rattle.std.specs.Prelude.{◌≡◌, ℕ, ◌+◌, ◌*◌, ◌/◌, ◌%◌, ◌<◌, ◌≤◌, length, slice_index, IfOk};
+ghost use Rattle.resb_tree.specs.Words.{run, unit_in, byte_in};
+
+use sqlite_items::Items;
+use std::alloc::{AllocError, Global};
+
+/// The byte at a place, low bytes of a word first.
+pub fn byte_at(words: &[u32], at: usize) -> u8
+    requires { at < 4 * length words.now }
+    ensures { result ≡ byte_in words.now at }
+{
+    ((words[at / 4] >> (8 * (at % 4) as u32)) % 256) as u8
+}
+
+/// The 16-bit unit at a place, the low unit of a word first.
+pub fn unit_at(words: &[u32], at: usize) -> u16
+    requires { at < 2 * length words.now }
+    ensures { result ≡ unit_in words.now at }
+{
+    let word = words[at / 2];
+    if at % 2 == 0 {
+        (word % 65_536) as u16
+    } else {
+        (word / 65_536) as u16
+    }
+}
+
+/// So many words, from one on.
+pub fn words_from(
+    alloc: Global,
+    words: &[u32],
+    from: usize,
+    count: usize,
+) -> Result<Items<u32>, AllocError>
+    requires { from + count ≤ length words.now }
+    ensures { IfOk result (λ items. items ≡ run (slice_index words.now) from count) }
+{
+    Items::from_slice(alloc, &words[from..from + count])
+}
+
+/// So many 16-bit units, from one on.
+pub fn units_from(
+    alloc: Global,
+    words: &[u32],
+    from: usize,
+    count: usize,
+) -> Result<Items<u16>, AllocError>
+    requires { from + count ≤ 2 * length words.now }
+    ensures { IfOk result (λ items. items ≡ run (unit_in words.now) from count) }
+{
+    let mut found = Vec::with_capacity(alloc, count)?;
+    let end = from + count;
+    let mut at = from;
+    while at < end {
+        if at % 2 == 0 && end - at >= 2 {
+            // a whole word
+            let first = at / 2 * 2;
+            found.push_reserved(unit_at(words, first));
+            found.push_reserved(unit_at(words, first + 1));
+            at += 2;
+        } else {
+            found.push_reserved(unit_at(words, at));
+            at += 1;
+        }
+    }
+    Ok(Items::from_vec(found))
+}
+
+/// So many bytes, from one on.
+pub fn bytes_from(
+    alloc: Global,
+    words: &[u32],
+    from: usize,
+    count: usize,
+) -> Result<Items<u8>, AllocError>
+    requires { from + count ≤ 4 * length words.now }
+    ensures { IfOk result (λ items. items ≡ run (byte_in words.now) from count) }
+{
+    let mut found = Vec::with_capacity(alloc, count)?;
+    let end = from + count;
+    let mut at = from;
+    while at < end {
+        if at % 4 == 0 && end - at >= 4 {
+            // a whole word
+            let first = at / 4 * 4;
+            found.push_reserved(byte_at(words, first));
+            found.push_reserved(byte_at(words, first + 1));
+            found.push_reserved(byte_at(words, first + 2));
+            found.push_reserved(byte_at(words, first + 3));
+            at += 4;
+        } else {
+            found.push_reserved(byte_at(words, at));
+            at += 1;
+        }
+    }
+    Ok(Items::from_vec(found))
+}
