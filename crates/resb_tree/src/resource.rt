@@ -1,7 +1,7 @@
 ghost use Rattle.std.specs.Prelude.{◌≡◌, ℕ, ◌<◌, List, false, None, IfSome, IfNone};
 ghost use Rattle.std.specs.Str.{bytes_eq};
 ghost use Rattle.std.specs.Option.{option_copied};
-ghost use Rattle.resb_tree.specs.Fields.{text_in, bytes_in, integers_in, items_in, entries_in, index_in, signed_in, sign_extended, field_in, first_with, StandsFirst, seen};
+ghost use Rattle.resb_tree.specs.Fields.{text_in, bytes_in, integers_in, items_in, entries_in, index_in, signed_in, sign_extended, field_in, first_with, without_first, without_field, StandsFirst, seen};
 
 use crate::key::Key;
 use sqlite_items::Items;
@@ -37,6 +37,7 @@ fn first_with<'a>(entries: &'a [(Key, Resource)], key: &[u8]) -> Option<&'a Reso
 fn place_of(entries: &[(Key, Resource)], key: &[u8]) -> Option<usize>
     ensures some { IfSome result (λ at. StandsFirst key.now at entries.now) }
     ensures none { IfNone result (first_with key.now entries.now ≡ None) }
+    ensures all { IfNone result (without_first key.now entries.now ≡ entries.now) }
 {
     for at in 0..entries.len() {
         if entries[at].0.as_slice() == key {
@@ -49,11 +50,22 @@ fn place_of(entries: &[(Key, Resource)], key: &[u8]) -> Option<usize>
 /// Takes the first entry with the key out, and answers its value.
 fn take_first(entries: &mut Items<(Key, Resource)>, key: &[u8]) -> Option<Resource>
     ensures value { result ≡ first_with key.now entries.old }
-    ensures others { (other : List ℕ) → bytes_eq other key.now ≡ false → first_with other entries.new ≡ first_with other entries.old }
+    ensures others { entries.new ≡ without_first key.now entries.old }
 {
     let at = place_of(entries.as_slice(), key)?;
     let (_, value) = entries.remove(at);
     Some(value)
+}
+
+/// The same in a table; another kind stays as it is.
+fn take_value(tree: &mut Resource, key: &[u8]) -> Option<Resource>
+    ensures value { result ≡ field_in key.now tree.old }
+    ensures rest { tree.new ≡ without_field key.now tree.old }
+{
+    match tree {
+        Resource::Table(entries) => take_first(entries, key),
+        _ => None,
+    }
 }
 
 /// The low 28 bits of a number with their sign.
@@ -154,12 +166,10 @@ impl Resource {
     /// `None` comes for another kind, and for a table without the key; then nothing changes.
     pub fn take_field(&mut self, key: &[u8]) -> Option<Resource>
         ensures value { result ≡ field_in key.now self.old }
+        ensures rest { self.new ≡ without_field key.now self.old }
         ensures others { (other : List ℕ) → bytes_eq other key.now ≡ false → field_in other self.new ≡ field_in other self.old }
     {
-        match self {
-            Resource::Table(entries) => take_first(entries, key),
-            _ => None,
-        }
+        take_value(self, key)
     }
 
     /// The units of a text, moved out of it.

@@ -1,3 +1,4 @@
+use crate::trees::{Entries, fixed_zone, root, text};
 use crate::{aliased, one_zone, three_zones, unlawful_zones};
 use resb::{Key, ResbError, Resource, write};
 use sqlite_items::Items;
@@ -177,5 +178,119 @@ fn tells_regions(rt: HostRuntime) -> Result<(), Fail> {
     let alias = zones.get("US/Pacific").ok_or("the alias is found")?;
     assert_eq!(rt; alias.region().raw(), *b"US\0");
     assert_eq!(rt; alias.name().units().len(), 10);
+    Ok(())
+}
+
+/// The words of three zones of one offset each, as `bench/many_zones.py` lays them out by the rules of the writer.
+const THREE_FIXED: [u32; 88] = [
+    0x27da_0018,
+    0x0000_0014,
+    0x0002_0000,
+    0x4273_6552,
+    0x0000_0002,
+    0x0000_0000,
+    0x2000_004b,
+    0x0000_0007,
+    0x0000_0012,
+    0x0000_0052,
+    0x0000_0052,
+    0x0000_0004,
+    0x0000_0000,
+    0x0000_0012,
+    0x656e_6f5a,
+    0x7974_0073,
+    0x664f_6570,
+    0x7465_7366,
+    0x614e_0073,
+    0x0073_656d,
+    0x656c_7552,
+    0x6552_0073,
+    0x6e6f_6967,
+    0x0000_0073,
+    0x0000_0002,
+    0xffff_5740,
+    0x0000_0000,
+    0x0026_0001,
+    0xe000_0012,
+    0x0000_0002,
+    0xffff_5ac4,
+    0x0000_0000,
+    0x0026_0001,
+    0xe000_0017,
+    0x0000_0002,
+    0xffff_5e48,
+    0x0000_0000,
+    0x0026_0001,
+    0xe000_001c,
+    0x0000_0003,
+    0x2000_0015,
+    0x2000_001a,
+    0x2000_001f,
+    0x0000_000a,
+    0x0065_0054,
+    0x0074_0073,
+    0x0030_002f,
+    0x0030_0030,
+    0x0030_0030,
+    0x0000_0000,
+    0x0000_000a,
+    0x0065_0054,
+    0x0074_0073,
+    0x0030_002f,
+    0x0030_0030,
+    0x0031_0030,
+    0x0000_0000,
+    0x0000_000a,
+    0x0065_0054,
+    0x0074_0073,
+    0x0030_002f,
+    0x0030_0030,
+    0x0032_0030,
+    0x0000_0000,
+    0x0000_0003,
+    0x0000_0025,
+    0x0000_002c,
+    0x0000_0033,
+    0x0000_0003,
+    0x0030_0030,
+    0x0000_0031,
+    0x0000_0003,
+    0x0030_0030,
+    0x0000_0031,
+    0x0000_0003,
+    0x0030_0030,
+    0x0000_0031,
+    0x0000_0003,
+    0x0000_003e,
+    0x0000_0041,
+    0x0000_0044,
+    0x0020_0004,
+    0x0038_0032,
+    0x0000_003e,
+    0x8000_0021,
+    0x8000_003a,
+    0x2000_0000,
+    0x8000_0047,
+];
+
+#[test]
+fn writes_zones_by_the_rules(rt: HostRuntime) -> Result<(), Fail> {
+    let alloc = rt.alloc();
+    let mut zones = Vec::new(alloc);
+    let mut names = Vec::new(alloc);
+    let mut regions = Vec::new(alloc);
+    for (name, offset) in [
+        ("Test/00000", -43_200),
+        ("Test/00001", -42_300),
+        ("Test/00002", -41_400),
+    ] {
+        zones.push(fixed_zone(alloc, offset)?)?;
+        names.push(text(alloc, name)?)?;
+        regions.push(text(alloc, "001")?)?;
+    }
+    let rules = Entries::new(alloc).into_table();
+    let tree = root(alloc, zones, names, rules, regions)?;
+    let words = write(alloc, &tree).ok().ok_or("three zones are written")?;
+    assert_eq!(rt; words.as_slice(), THREE_FIXED.as_slice());
     Ok(())
 }

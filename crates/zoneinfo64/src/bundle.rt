@@ -252,4 +252,10 @@ impl ZoneInfo64 {
 }
 
 #[cfg(test)]
+mod lookup_tests;
+#[cfg(test)]
+mod rule_tests;
+#[cfg(test)]
 mod tests;
+#[cfg(test)]
+mod trees;
