@@ -1,3 +1,4 @@
+pub mod Cases
 pub mod Folds
 pub mod Pools
 pub mod LaidWords

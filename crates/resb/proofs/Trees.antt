@@ -8,7 +8,7 @@ use Rattle.resb_tree.specs.Keys.{distinct, keys_in}
 use Rattle.resb_tree.specs.Tree.{Body, by_type, array_at, table16_at, tree_at}
 use Rattle.resb.specs.Writing.{pack_units, item, Laid, lay_all, array_laid, table_laid, laid, entry_keys, item_keys, keys_met, most_of, most_entries, any_bad, has_bad_key, depth, has_wide_integer}
 use Rattle.resb.specs.Laws.{all_true, has_typed_parts}
-use Rattle.resb_tree.proofs.Cases.{by_variant}
+use Rattle.resb.proofs.Cases.{by_variant}
 use Rattle.resb.proofs.PackedWords.{StandIn, Below, stand_front, stand_back, length-pack_units}
 use Rattle.resb.proofs.PoolReads.{Each, each_append, both_each, Placed}
 use Rattle.resb.proofs.ReadBack.{Read, Reads, at_type, text_reads, bytes_reads, integers_reads, Denote, array_read, table_read}

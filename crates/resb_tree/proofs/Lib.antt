@@ -7,4 +7,3 @@ pub mod KeySets
 pub mod FirstEntries
 pub mod Limits
 pub mod Within
-pub mod Cases

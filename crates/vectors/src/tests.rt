@@ -1,6 +1,6 @@
 use crate::trees::{Entries, fixed_zone, root, text};
 use crate::{aliased, one_zone, three_zones, unlawful_zones};
-use resb::{Key, ResbError, Resource, write};
+use resb::{Key, ResbError, Resource, read, write};
 use sqlite_items::Items;
 use std::alloc::{AllocError, Global};
 use std::test::Fail;
@@ -153,7 +153,10 @@ fn reads_one_zone(rt: HostRuntime) -> Result<(), Fail> {
     let words = write(alloc, &one_zone(alloc)?)
         .ok()
         .ok_or("one zone is written")?;
-    assert_eq!(rt; words.len(), 52);
+    assert_eq!(rt; words.as_slice(), PLUS2.as_slice());
+    let tree = read(alloc, &words).ok().ok_or("one zone is read")?;
+    let again = write(alloc, &tree).ok().ok_or("it is written again")?;
+    assert_eq!(rt; again.as_slice(), PLUS2.as_slice());
     let zones = ZoneInfo64::try_from_u32s(alloc, &words)
         .ok()
         .ok_or("one zone is read")?;
@@ -180,6 +183,62 @@ fn tells_regions(rt: HostRuntime) -> Result<(), Fail> {
     assert_eq!(rt; alias.name().units().len(), 10);
     Ok(())
 }
+
+/// The words of the zone `Test/Plus2`, which are also those of the bundle that the stored run of the program reads.
+const PLUS2: [u32; 52] = [
+    0x27da_0018,
+    0x0000_0014,
+    0x0002_0000,
+    0x4273_6552,
+    0x0000_0002,
+    0x0000_0000,
+    0x2000_0027,
+    0x0000_0007,
+    0x0000_0012,
+    0x0000_002e,
+    0x0000_002e,
+    0x0000_0004,
+    0x0000_0000,
+    0x0000_0012,
+    0x656e_6f5a,
+    0x7974_0073,
+    0x664f_6570,
+    0x7465_7366,
+    0x614e_0073,
+    0x0073_656d,
+    0x656c_7552,
+    0x6552_0073,
+    0x6e6f_6967,
+    0x0000_0073,
+    0x0000_0002,
+    0x0000_1c20,
+    0x0000_0000,
+    0x0026_0001,
+    0xe000_0012,
+    0x0000_0001,
+    0x2000_0015,
+    0x0000_000a,
+    0x0065_0054,
+    0x0074_0073,
+    0x0050_002f,
+    0x0075_006c,
+    0x0032_0073,
+    0x0000_0000,
+    0x0000_0001,
+    0x0000_0019,
+    0x0000_0003,
+    0x0030_0030,
+    0x0000_0031,
+    0x0000_0001,
+    0x0000_0022,
+    0x0020_0004,
+    0x0038_0032,
+    0x0000_003e,
+    0x8000_0017,
+    0x8000_0020,
+    0x2000_0000,
+    0x8000_0025,
+];
 
 /// The words of three zones of one offset each, as `bench/many_zones.py` lays them out by the rules of the writer.
 const THREE_FIXED: [u32; 88] = [

@@ -12,7 +12,7 @@ use crate::fields::{region_of, zone_data};
 use crate::rules::{Rules, rules};
 use crate::utf16::PotentialUtf16;
 use crate::zone::{Item, Named, ZoneInfo64};
-use resb::{Key, ResbError, Resource};
+use resb_tree::{Key, ResbError, Resource};
 use sqlite_items::Items;
 use std::alloc::Global;
 
@@ -241,7 +241,7 @@ impl ZoneInfo64 {
         ensures tree { IsErrOf result errors.Tree → tree_of words.now ≡ None }
         ensures rules { IsErrOf result errors.Rules → IsSome (tree_of words.now) × (zones_of_words words.now ≡ None) }
     {
-        let root = match resb::read(alloc, words) {
+        let root = match resb_tree::read(alloc, words) {
             Ok(root) => root,
             Err(ResbError::Memory) => return Err(BinaryDeserializerError::Memory),
             Err(_) => return Err(BinaryDeserializerError::Tree),

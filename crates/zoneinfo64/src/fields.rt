@@ -12,7 +12,7 @@ use crate::region::Region;
 use crate::rule::YearRule;
 use crate::rules::Rules;
 use crate::zone::ZoneData;
-use resb::Resource;
+use resb_tree::Resource;
 use sqlite_items::Items;
 use std::alloc::Global;
 

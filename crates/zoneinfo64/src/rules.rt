@@ -8,7 +8,7 @@ ghost use Rattle.zoneinfo64.specs.Steps.{Reads, ReadsRules, rule_in};
 
 use crate::error::BinaryDeserializerError;
 use crate::rule::{RuleDates, dates};
-use resb::{Key, Resource};
+use resb_tree::{Key, Resource};
 use std::alloc::{AllocError, Global};
 use std::collections::BTreeMap;
 
