@@ -16,10 +16,17 @@ failed=0
 
 "$top/saywhen" at en "$top/crates/saywhen/data/plus2.res" </dev/null || exit 1
 
-# Highest memory of a run in KiB. The system tells it only of a process that lives, so it is asked without a pause, by
-# the shell alone; and before the program is begun it is the shell's own, which does not count.
+# Highest memory of a run in KiB, told by GNU time. Without it the system is asked, which tells it only of a process that
+# lives: so it is asked without a pause, by the shell alone; and before the program is begun it is the shell's own, which
+# does not count.
+timer=$(type -P time)
+[ -n "$timer" ] && "$timer" -f %M true 2>&1 | grep -qx '[0-9][0-9]*' || timer=
 one_peak() {
     local most=0 name now word value
+    if [ -n "$timer" ]; then
+        "$timer" -f %M "$program" at en "$1" 2>&1 </dev/null >/dev/null | tail -n 1
+        return
+    fi
     "$program" at en "$1" </dev/null &
     local pid=$!
     while
