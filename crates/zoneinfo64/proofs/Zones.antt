@@ -10,7 +10,7 @@ use Rattle.zoneinfo64.specs.Zone.{RawRule}
 use Rattle.zoneinfo64.specs.NamedZone.{NamedZone}
 use Rattle.zoneinfo64.specs.Steps.{Reads, named_steps, list_steps}
 use Rattle.zoneinfo64.specs.ZoneList.{named_of, zones_of}
-use Rattle.zoneinfo64.proofs.Bundles.{in_a_row}
+use Rattle.zoneinfo64.proofs.Bundles.{in_a_row, none_after}
 
 -- what is still read, and what was read behind it
 abbrev pub with_back : {A : Type 0} → List A → Option (List A) → Option (List A)
@@ -39,10 +39,6 @@ list_back find (z ∷ zones) [] regions zone name region n r = absurd (omega ari
 list_back find (z ∷ zones) (m ∷ names) [] zone name region n r = absurd (omega arith)
 list_back find (z ∷ zones) (m ∷ names) (b ∷ regions) zone name region n r =
     rw (list_back find zones names regions zone name region (omega arith) (omega arith)) (simp in_a_row)
-
-none_behind : {A B : Type 0} (o : Option A) → let none : Option B = None in (o >>= λ _. none) ≡ none
-none_behind None = refl
-none_behind (Some x) = refl
 
 back_none : {A : Type 0} (back : List A) (read : Option (List A)) → read ≡ None → with_back back read ≡ None
 back_none back read e = rw e refl
@@ -104,7 +100,7 @@ pub zone_broken : (find : Find) (entries : List Named) (zones fewer_zones names 
     → Turn zones fewer_zones names fewer_names regions at zone name region → named_steps find zone name region ≡ None
     → with_back (reverse (zones_of entries)) (list_steps find zones names (take at regions)) ≡ total → total ≡ None
 zone_broken find entries zones fewer_zones names fewer_names regions at zone name region total t broken so_far =
-    let none : list_steps find zones names (take at regions) ≡ None = rw (turned find zones fewer_zones names fewer_names regions at zone name region t, broken) (none_behind (list_steps find fewer_zones fewer_names (take (at - 1) regions))) in
+    let none : list_steps find zones names (take at regions) ≡ None = rw (turned find zones fewer_zones names fewer_names regions at zone name region t, broken) (none_after (list_steps find fewer_zones fewer_names (take (at - 1) regions))) in
     sym so_far ∙ back_none (reverse (zones_of entries)) _ none
 
 pub broken_list : {X Y : Type 0} (view : X → List NamedZone) (one : Y → NamedZone) (e : BinaryDeserializerError) (find : Find) (entries : List Named) (zones fewer_zones names fewer_names regions : List Resource) (at : ℕ) (zone name region : Resource) (total : Option (List NamedZone))
