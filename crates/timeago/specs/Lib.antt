@@ -1,0 +1,11 @@
+pub mod Settings
+pub mod Formatters
+pub mod Counts
+pub mod Words
+pub mod Within
+pub mod Appended
+pub mod FiveChars
+pub mod Steps
+pub mod Codes
+pub mod Styles
+pub mod Laws

@@ -1,0 +1,26 @@
+-- What the language says that is named.
+use Rattle.tongues.specs.Speech.{Speech}
+use Rattle.tongues.specs.Languages.{basque, belarusian, chinese, danish, english, french, german, italian, japanese, korean, polish, portuguese, romanian, russian, spanish, swedish, thai, turkish, ukrainian}
+use Rattle.tongues.specs.declared.any.AnyLanguage.{AnyLanguage}
+use Rattle.tongues.specs.declared.any.AnyLanguage.TheVariants as any
+
+abbrev pub any_speech : AnyLanguage → Speech
+any_speech (any.Basque l) = basque
+any_speech (any.Belarusian l) = belarusian
+any_speech (any.Chinese l) = chinese
+any_speech (any.Danish l) = danish
+any_speech (any.English l) = english
+any_speech (any.French l) = french
+any_speech (any.German l) = german
+any_speech (any.Italian l) = italian
+any_speech (any.Japanese l) = japanese
+any_speech (any.Korean l) = korean
+any_speech (any.Polish l) = polish
+any_speech (any.Portuguese l) = portuguese
+any_speech (any.Romanian l) = romanian
+any_speech (any.Russian l) = russian
+any_speech (any.Spanish l) = spanish
+any_speech (any.Swedish l) = swedish
+any_speech (any.Thai l) = thai
+any_speech (any.Turkish l) = turkish
+any_speech (any.Ukrainian l) = ukrainian
