@@ -1,0 +1,9 @@
+pub mod Causes
+pub mod Feed
+pub mod Whole
+pub mod Lines
+pub mod Report
+pub mod Codes
+pub mod Ends
+pub mod Stands
+pub mod Inside
