@@ -1,7 +1,8 @@
 -- The counts of years and months in closed form.
-use Rattle.std.proofs.Common.{◌≡◌, ℕ, zero, suc, ◌+◌, ◌-◌, ◌*◌, ◌/◌, ◌<◌, ◌≤◌, cond, nat_lt, [], ◌∷◌, get_or, refl, sym, arith, ℤ, pos, negsuc, ◌+ℤ◌, ◌-ℤ◌, ◌*ℤ◌, ◌≤ℤ◌, neg_ℤ, unsigned_abs}
+use Rattle.std.proofs.Common.{◌≡◌, ℕ, zero, suc, ◌+◌, ◌-◌, ◌*◌, ◌/◌, ◌<◌, ◌≤◌, cond, nat_lt, [], ◌∷◌, get_or, refl, sym, ap, arith, ℤ, pos, negsuc, ◌+ℤ◌, ◌-ℤ◌, ◌*ℤ◌, ◌<ℤ◌, ◌≤ℤ◌, neg_ℤ, unsigned_abs}
 use Rattle.std.proofs.lemmas.Bool.Decides.{nat_tests}
-use Rattle.civil.specs.Calendar.{is_leap_year, days_in_year, days_in_month, days_from_zero, days_to_zero, year_start, leap_days_to, days_of_months, day_of, IsDate, IsDay}
+use Rattle.std.proofs.lemmas.Int.{by_lt_z}
+use Rattle.civil.specs.Calendar.{is_leap_year, days_in_year, days_in_month, days_from_zero, days_to_zero, year_start, leap_days_to, days_of_months, day_of, HoldsDay, IsDate, IsDay}
 use Rattle.civil.specs.Laws.{CountsYears}
 use Rattle.civil.proofs.SignedLemmas.{signed_arith, one_part}
 use borrow.Author.Differences.{up, down}
@@ -66,7 +67,7 @@ unfolding year_start
 year_start-to n = rw epoch_days refl
 
 -- no year has more days
-days_in_year_bound : (y : ℤ) → days_in_year y ≤ 366
+pub days_in_year_bound : (y : ℤ) → days_in_year y ≤ 366
 days_in_year_bound y = grind arith
 
 -- the first day of the year after x
@@ -105,8 +106,13 @@ counts_years = record {
   next = year_start-next;
 }
 
+-- the twelve months are the year
+pub year_of_months : (y : ℤ) → days_of_months y 12 ≡ days_in_year y
+unfolding days_of_months
+year_of_months y = grind (arith, days_of_months_table y 11 (omega arith), days_in_year-leap_day y)
+
 -- a month lies inside its year
-months_within : (y : ℤ) (n : ℕ) → n < 12 → days_of_months y n + days_in_month y (suc n) ≤ days_in_year y
+pub months_within : (y : ℤ) (n : ℕ) → n < 12 → days_of_months y n + days_in_month y (suc n) ≤ days_in_year y
 months_within y zero h = grind (arith, days_of_months_table y 0 (omega arith))
 months_within y (suc zero) h = grind (arith, days_of_months_table y 1 (omega arith))
 months_within y (suc (suc zero)) h = grind (arith, days_of_months_table y 2 (omega arith))
@@ -121,12 +127,16 @@ months_within y (suc (suc (suc (suc (suc (suc (suc (suc (suc (suc zero))))))))))
 months_within y (suc (suc (suc (suc (suc (suc (suc (suc (suc (suc (suc zero))))))))))) h = grind (arith, days_of_months_table y 11 (omega arith))
 months_within y (suc (suc (suc (suc (suc (suc (suc (suc (suc (suc (suc (suc n)))))))))))) h = absurd (omega arith)
 
--- a date lies inside its year
-pub day_within : (y : ℤ) (m d : ℕ) → IsDate y m d → days_of_months y (m - 1) + d ≤ days_in_year y
-day_within y zero d is = absurd (omega arith)
-day_within y (suc n) d is =
+-- a day of a month lies inside its year, whether the calendar has the year or not
+pub day_in_year : (y : ℤ) (m d : ℕ) → 1 ≤ m → m ≤ 12 → d ≤ days_in_month y m → days_of_months y (m - 1) + d ≤ days_in_year y
+day_in_year y zero d first last within = absurd (omega arith)
+day_in_year y (suc n) d first last within =
     let back : suc n - 1 ≡ n = omega arith in
     rw back (omega (arith, months_within y n (omega arith)))
+
+-- so does a date
+pub day_within : (y : ℤ) (m d : ℕ) → IsDate y m d → days_of_months y (m - 1) + d ≤ days_in_year y
+day_within y m d is = day_in_year y m d is.first_month is.last_month is.last_day
 
 -- `day_of` as an equation, for `omega`
 pub day_of-is : (y : ℤ) (m d : ℕ) → day_of y m d ≡ year_start y +ℤ pos (days_of_months y (m - 1) + (d - 1))
@@ -141,6 +151,15 @@ first_start = year_start-after (negsuc 262143)
 pub last_start : year_start (pos 262143) ≡ pos 95026237
 unfolding leap_days_to
 last_start = year_start-after (pos 262142)
+
+-- the first year of 32 bits, and the year after the last one
+pub first_start_i32 : year_start (negsuc 2147483647) ≡ negsuc 784353015832
+unfolding leap_days_to
+first_start_i32 = year_start-after (negsuc 2147483648)
+
+pub last_start_i32 : year_start (pos 2147483648) ≡ pos 784351576777
+unfolding leap_days_to
+last_start_i32 = year_start-after (pos 2147483647)
 
 -- a later year starts later
 start_up : (y : ℤ) (k : ℕ) → year_start y ≤ℤ year_start (y +ℤ pos k)
@@ -175,4 +194,72 @@ code_day y m d start months is e f =
       whole = whole;
       inside = rw whole (in_calendar y m d is);
       small = omega (arith, day_within y m d is, days_in_year_bound y);
+    }
+
+-- the year of a day between the first and the last that 32 bits tell is one of 32 bits
+pub year_of_32_bits : (y day : ℤ) → HoldsDay y day → negsuc 784353015832 ≤ℤ day → day ≤ℤ pos 784351576776 → (negsuc 2147483647 ≤ℤ y) × (y ≤ℤ pos 2147483647)
+year_of_32_bits y day is low high = (
+  by_lt_z y (negsuc 2147483647)
+      (λ before. absurd (omega (arith, signed_arith, is.not_over, first_start_i32, starts_in_order (y +ℤ pos 1) (negsuc 2147483647) (omega (arith, signed_arith)))))
+      (λ from. from),
+  by_lt_z (pos 2147483647) y
+      (λ after. absurd (omega (arith, signed_arith, is.begun, last_start_i32, starts_in_order (pos 2147483648) y (omega (arith, signed_arith)))))
+      (λ to. to),
+)
+
+-- fewer days than a year has stand before a month
+pub months_few : (y : ℤ) (n : ℕ) → n < 12 → days_of_months y n < 366
+months_few y n h =
+    let some : 1 ≤ days_in_month y (suc n) = grind arith in
+    omega (arith, months_within y n h, days_in_year_bound y, some)
+
+-- n months have at most 32 days each
+months_before : (y : ℤ) (n : ℕ) → n < 12 → days_of_months y n ≤ 32 * n
+months_before y zero h = grind (arith, days_of_months_table y 0 (omega arith))
+months_before y (suc (zero)) h = grind (arith, days_of_months_table y 1 (omega arith))
+months_before y (suc (suc (zero))) h = grind (arith, days_of_months_table y 2 (omega arith))
+months_before y (suc (suc (suc (zero)))) h = grind (arith, days_of_months_table y 3 (omega arith))
+months_before y (suc (suc (suc (suc (zero))))) h = grind (arith, days_of_months_table y 4 (omega arith))
+months_before y (suc (suc (suc (suc (suc (zero)))))) h = grind (arith, days_of_months_table y 5 (omega arith))
+months_before y (suc (suc (suc (suc (suc (suc (zero))))))) h = grind (arith, days_of_months_table y 6 (omega arith))
+months_before y (suc (suc (suc (suc (suc (suc (suc (zero)))))))) h = grind (arith, days_of_months_table y 7 (omega arith))
+months_before y (suc (suc (suc (suc (suc (suc (suc (suc (zero))))))))) h = grind (arith, days_of_months_table y 8 (omega arith))
+months_before y (suc (suc (suc (suc (suc (suc (suc (suc (suc (zero)))))))))) h = grind (arith, days_of_months_table y 9 (omega arith))
+months_before y (suc (suc (suc (suc (suc (suc (suc (suc (suc (suc (zero))))))))))) h = grind (arith, days_of_months_table y 10 (omega arith))
+months_before y (suc (suc (suc (suc (suc (suc (suc (suc (suc (suc (suc (zero)))))))))))) h = grind (arith, days_of_months_table y 11 (omega arith))
+months_before y (suc (suc (suc (suc (suc (suc (suc (suc (suc (suc (suc (suc (n))))))))))))) h = absurd (omega arith)
+
+-- and one month more has no fewer days than 32 for each
+months_from : (y : ℤ) (n : ℕ) → suc n < 12 → 32 * n + 32 ≤ days_of_months y (suc (suc n))
+months_from y zero h = grind (arith, days_of_months_table y 2 (omega arith))
+months_from y (suc (zero)) h = grind (arith, days_of_months_table y 3 (omega arith))
+months_from y (suc (suc (zero))) h = grind (arith, days_of_months_table y 4 (omega arith))
+months_from y (suc (suc (suc (zero)))) h = grind (arith, days_of_months_table y 5 (omega arith))
+months_from y (suc (suc (suc (suc (zero))))) h = grind (arith, days_of_months_table y 6 (omega arith))
+months_from y (suc (suc (suc (suc (suc (zero)))))) h = grind (arith, days_of_months_table y 7 (omega arith))
+months_from y (suc (suc (suc (suc (suc (suc (zero))))))) h = grind (arith, days_of_months_table y 8 (omega arith))
+months_from y (suc (suc (suc (suc (suc (suc (suc (zero)))))))) h = grind (arith, days_of_months_table y 9 (omega arith))
+months_from y (suc (suc (suc (suc (suc (suc (suc (suc (zero))))))))) h = grind (arith, days_of_months_table y 10 (omega arith))
+months_from y (suc (suc (suc (suc (suc (suc (suc (suc (suc (zero)))))))))) h = grind (arith, days_of_months_table y 11 (omega arith))
+months_from y (suc (suc (suc (suc (suc (suc (suc (suc (suc (suc (zero))))))))))) h = grind (arith, year_of_months y)
+months_from y (suc (suc (suc (suc (suc (suc (suc (suc (suc (suc (suc (n)))))))))))) h = absurd (omega arith)
+
+-- the month of a day of the year is the one after as many months as it has 32 days, or the next one
+pub record NearMonth (y : ℤ) (r : ℕ) : Type 0 where
+  pub small : r / 32 < 12
+  pub begun : days_of_months y (r / 32 + 1 - 1) ≤ r
+  pub not_over : r / 32 + 1 < 12 → r < days_of_months y (r / 32 + 1 + 1)
+  pub last : (r / 32 + 1 < 12 → ⊥) → r < days_of_months y (r / 32 + 1)
+
+pub near_month : (y : ℤ) (r : ℕ) → r < days_in_year y → NearMonth y r
+near_month y r h =
+    let n = r / 32 in
+    let small : n < 12 = omega (arith, days_in_year_bound y) in
+    let same : n + 1 - 1 ≡ n = omega arith in
+    let next : n + 1 + 1 ≡ suc (suc n) = omega arith in
+    record {
+      small = small;
+      begun = omega (arith, ap (days_of_months y) same, months_before y n small);
+      not_over = λ more. omega (arith, ap (days_of_months y) next, months_from y n (omega arith));
+      last = λ no. let all : n + 1 ≡ 12 = omega (arith, no) in omega (arith, ap (days_of_months y) all, year_of_months y);
     }

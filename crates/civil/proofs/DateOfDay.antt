@@ -1,10 +1,10 @@
 -- Each day number of the calendar is that of a date: the year that holds the day, its month, its day.
-use Rattle.std.proofs.Common.{◌≡◌, ℕ, zero, suc, ◌-◌, ◌<◌, ◌≤◌, inl, inr, arith, ℤ, pos, negsuc, unsigned_abs, ◌+ℤ◌, ◌-ℤ◌, ◌<ℤ◌, ◌≤ℤ◌}
+use Rattle.std.proofs.Common.{◌≡◌, ℕ, zero, suc, ◌+◌, ◌-◌, ◌<◌, ◌≤◌, inl, inr, sym, ap, subst, ◌∙◌, arith, ℤ, pos, negsuc, unsigned_abs, ◌+ℤ◌, ◌-ℤ◌, ◌<ℤ◌, ◌≤ℤ◌}
 use Rattle.std.proofs.lemmas.Bool.{cases_lt}
 use Rattle.std.proofs.lemmas.Int.{by_lt_z}
-use Rattle.civil.specs.Calendar.{days_in_year, days_of_months, year_start, day_of, IsDate, IsDay}
+use Rattle.civil.specs.Calendar.{days_in_year, days_of_months, year_start, day_of, HoldsDay, IsDate, IsDay, IsDateOf}
 use Rattle.civil.proofs.SignedLemmas.{signed_arith, one_part}
-use Rattle.civil.proofs.CalendarLemmas.{days_in_year-leap_day, days_of_months_table, day_of-is, first_start, last_start, year_start-next}
+use Rattle.civil.proofs.CalendarLemmas.{year_of_months, day_of-is, first_start, last_start, year_start-next, starts_in_order, days_in_year_bound}
 
 -- a year that holds the day
 record IsYearOf (day first end y : ℤ) : Type 0 where
@@ -53,11 +53,6 @@ month_of_day y r (suc n) h =
       | inr from ↦ (n, omega arith, from, h)
     ]
 
--- the twelve months are the year
-pub year_of_months : (y : ℤ) → days_of_months y 12 ≡ days_in_year y
-unfolding days_of_months
-year_of_months y = grind (arith, days_of_months_table y 11 (omega arith), days_in_year-leap_day y)
-
 -- a day of a month, counted from 0, as a date
 date_in_month : (day y : ℤ) (r m : ℕ) → negsuc 262142 ≤ℤ y → y ≤ℤ pos 262142 → m < 12 → days_of_months y m ≤ r → r < days_of_months y (suc m) → day ≡ year_start y +ℤ pos r
     → IsDate y (suc m) (suc (r - days_of_months y m)) × (day_of y (suc m) (suc (r - days_of_months y m)) ≡ day)
@@ -74,6 +69,41 @@ date_in_month day y r m first last h from below is =
       },
       omega (arith, signed_arith, rw back at (day_of-is y (suc m) (suc (r - days_of_months y m)))),
     )
+
+-- the year of a day of the calendar is one of the calendar
+pub year_in_calendar : (y day : ℤ) → HoldsDay y day → IsDay day → (negsuc 262142 ≤ℤ y) × (y ≤ℤ pos 262142)
+year_in_calendar y day holds is = (
+  by_lt_z y (negsuc 262142)
+      (λ before. absurd (omega (arith, signed_arith, holds.not_over, is.first, first_start, starts_in_order (y +ℤ pos 1) (negsuc 262142) (omega (arith, signed_arith)))))
+      (λ from. from),
+  by_lt_z (pos 262142) y
+      (λ after. absurd (omega (arith, signed_arith, holds.begun, is.last, last_start, starts_in_order (pos 262143) y (omega (arith, signed_arith)))))
+      (λ to. to),
+)
+
+-- the date of a day number, by its year, the days of the year before it, and its month
+pub date_by_parts : (day y : ℤ) (r m before : ℕ) → IsDay day → HoldsDay y day → day ≡ year_start y +ℤ pos r → 1 ≤ m → m ≤ 12
+    → before ≡ days_of_months y (m - 1) → days_of_months y (m - 1) ≤ r → r < days_of_months y m → IsDateOf day y m (r - before + 1)
+date_by_parts day y r zero before is holds e low high f from to = absurd (omega arith)
+date_by_parts day y r (suc n) before is holds e low high f from to =
+    let back : suc n - 1 ≡ n = omega arith in
+    let same : before ≡ days_of_months y n = f ∙ ap (days_of_months y) back in
+    let years = year_in_calendar y day holds is in
+    let date = date_in_month day y r n years.0 years.1 (omega arith) (omega (arith, ap (days_of_months y) back)) to e in
+    let d : suc (r - days_of_months y n) ≡ r - before + 1 = omega (arith, same) in
+    let P : ℕ → Type 0 = λ d. IsDateOf day y (suc n) d in
+    subst P d (record { exists = date.0; is = date.1 })
+
+-- the day of the year is below the year's length
+pub ordinal_in : (day y : ℤ) → HoldsDay y day → (pos 0 ≤ℤ (day -ℤ year_start y)) × ((day -ℤ year_start y) <ℤ pos (days_in_year y)) × (days_in_year y ≤ 366)
+ordinal_in day y holds = (omega (arith, signed_arith, holds.begun), omega (arith, signed_arith, holds.not_over, year_start-next y), days_in_year_bound y)
+
+-- for equal numbers
+pub moved_date : (day n y z : ℤ) (m d : ℕ) → day ≡ n → y ≡ z → IsDateOf day y m d → IsDateOf n z m d
+moved_date day n y z m d e f is =
+    let P : ℤ → Type 0 = λ y. IsDateOf day y m d in
+    let Q : ℤ → Type 0 = λ n. IsDateOf n z m d in
+    subst Q e (subst P f is)
 
 -- any day number of the calendar, by its year, then its month
 pub date_of_day : (day : ℤ) → IsDay day → (y : ℤ) × (m : ℕ) × (d : ℕ) × IsDate y m d × (day_of y m d ≡ day)

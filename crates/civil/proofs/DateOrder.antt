@@ -1,6 +1,8 @@
 -- An earlier date has a smaller day number.
-use Rattle.std.proofs.Common.{◌≡◌, ℕ, zero, suc, ◌+◌, ◌-◌, ◌<◌, ◌≤◌, inl, inr, arith, ℤ, pos, ◌+ℤ◌, ◌<ℤ◌}
-use Rattle.civil.specs.Calendar.{days_in_month, days_of_months, day_of, IsDate}
+use Rattle.std.proofs.Common.{◌≡◌, ℕ, zero, suc, ◌+◌, ◌-◌, ◌<◌, ◌≤◌, inl, inr, sym, arith, ℤ, pos, ◌+ℤ◌, ◌<ℤ◌}
+use Rattle.civil.specs.Calendar.{days_in_month, days_of_months, day_of, IsDate, IsDateOf}
+use Rattle.std.proofs.lemmas.Bool.{cases_lt}
+use Rattle.std.proofs.lemmas.Int.{by_lt_z}
 use Rattle.civil.specs.Laws.{IsEarlier}
 use Rattle.civil.proofs.SignedLemmas.{signed_arith}
 use Rattle.civil.proofs.CalendarLemmas.{day_of-is, day_within, starts_in_order, year_start-next}
@@ -16,7 +18,7 @@ months_up y n (suc k) =
     rw next (omega (arith, months_up y n k))
 
 -- a month ends before a later one of its year begins
-month_before : (y : ℤ) (m m' : ℕ) → 1 ≤ m → m < m' → days_of_months y (m - 1) + days_in_month y m ≤ days_of_months y (m' - 1)
+pub month_before : (y : ℤ) (m m' : ℕ) → 1 ≤ m → m < m' → days_of_months y (m - 1) + days_in_month y m ≤ days_of_months y (m' - 1)
 unfolding days_of_months
 month_before y zero m' h k = absurd (omega arith)
 month_before y (suc n) m' h k =
@@ -47,3 +49,27 @@ days_in_order y m d y' m' d' is is' (inr h) =
       | inl before ↦ earlier_month y m d m' d' is before
       | inr same ↦ rw (← same.0) (earlier_day y m d d' is same.1)
     ])
+
+-- of two dates of one day number none is earlier
+not_earlier : (day y : ℤ) (m d : ℕ) (y' : ℤ) (m' d' : ℕ) → IsDateOf day y m d → IsDateOf day y' m' d' → IsEarlier y m d y' m' d' → ⊥
+not_earlier day y m d y' m' d' a b h = omega (arith, signed_arith, a.is, b.is, days_in_order y m d y' m' d' a.exists b.exists h)
+
+-- so they are one date
+pub date_once : (day y : ℤ) (m d : ℕ) (y' : ℤ) (m' d' : ℕ) → IsDateOf day y m d → IsDateOf day y' m' d' → (y ≡ y') × (m ≡ m') × (d ≡ d')
+date_once day y m d y' m' d' a b =
+    let there = not_earlier day y m d y' m' d' a b in
+    let back = not_earlier day y' m' d' y m d b a in
+    let years : y ≡ y' =
+    by_lt_z y y' (λ h. absurd (there (inl h)))
+    (λ from. by_lt_z y' y (λ h. absurd (back (inl h))) (λ to. omega (arith, signed_arith, from, to))) in
+    let months : m ≡ m' =
+    elim (cases_lt m m') [
+      | inl h ↦ absurd (there (inr (years, inl h)))
+      | inr from ↦ elim (cases_lt m' m) [ inl h ↦ absurd (back (inr (sym years, inl h))) | inr to ↦ omega (arith, from, to) ]
+    ] in
+    let days : d ≡ d' =
+    elim (cases_lt d d') [
+      | inl h ↦ absurd (there (inr (years, inr (months, h))))
+      | inr from ↦ elim (cases_lt d' d) [ inl h ↦ absurd (back (inr (sym years, inr (sym months, h)))) | inr to ↦ omega (arith, from, to) ]
+    ] in
+    (years, months, days)

@@ -1,6 +1,10 @@
 pub mod SignedLemmas
 pub mod CalendarLemmas
+pub mod CalendarCycle
+pub mod YearKinds
 pub mod DateOrder
 pub mod DateOfDay
 pub mod DateEnds
+pub mod DateMoves
+pub mod WallParts
 pub mod CalendarExamples

@@ -1,6 +1,6 @@
 -- Signed numbers for `omega`, which reads z as `up z - down z`: std's `ints` in forms that need no case split.
-use Rattle.std.proofs.Common.{◌≡◌, ℕ, ◌+◌, ◌*◌, ◌^◌, ◌<◌, ◌≤◌, ◌⊎◌, inl, inr, refl, arith, ℤ, pos, negsuc, to_z, of_z, FitsSigned, unsigned_abs}
-use Rattle.std.specs.Int.{Width, int_div_euclid}
+use Rattle.std.proofs.Common.{◌≡◌, ℕ, ◌+◌, ◌*◌, ◌%◌, ◌^◌, ◌<◌, ◌≤◌, ◌⊎◌, inl, inr, refl, arith, ℤ, pos, negsuc, to_z, of_z, FitsSigned, unsigned_abs}
+use Rattle.std.specs.Int.{Width, int_div_euclid, int_rem_euclid}
 use borrow.Author.Differences.{up, down, fits_out, same_out, Apart-out, lt_T, le_T, lt_not, le_not, lt-true, lt-false, le-true, le-false, true-lt, false-lt, true-le, false-le, not_negative_out, lt_out, le_out, fits_in, same_in, lt_in, le_in, below_in, at_most_in, not_negative_in, sum_is_lem, neg_is, product_is, quot_is, back_is, small_is}
 use mir.Val.{hbits}
 
@@ -20,6 +20,16 @@ unsigned_abs-parts (negsuc n) = omega arith
 pub int_div_euclid-parts : (a : ℤ) (k : ℕ) → 0 < k → (up (int_div_euclid a (pos k)) * k + down a ≤ down (int_div_euclid a (pos k)) * k + up a) × (down (int_div_euclid a (pos k)) * k + up a < up (int_div_euclid a (pos k)) * k + down a + k)
 int_div_euclid-parts (pos a) k h = omega arith
 int_div_euclid-parts (negsuc a) k h = omega arith
+
+-- and the remainder is what that leaves
+pub int_rem_euclid-parts : (a : ℤ) (k : ℕ) → 0 < k → (up (int_rem_euclid a (pos k)) + up (int_div_euclid a (pos k)) * k + down a ≡ down (int_div_euclid a (pos k)) * k + up a) × (down (int_rem_euclid a (pos k)) ≡ 0) × (up (int_rem_euclid a (pos k)) < k)
+int_rem_euclid-parts (pos a) k h = omega arith
+int_rem_euclid-parts (negsuc a) k h = omega arith
+
+-- the bits of a number that is not negative are the number
+pub bits_of_nonnegative : (w : Width) (z : ℤ) → down z ≤ up z → of_z w z + down z ≡ up z
+bits_of_nonnegative w (pos n) h = omega arith
+bits_of_nonnegative w (negsuc n) h = omega arith
 
 -- one of the two parts is 0: list it for a number that is divided, or made a natural
 pub one_part : (z : ℤ) → (up z ≡ 0) ⊎ (down z ≡ 0)

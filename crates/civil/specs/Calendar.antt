@@ -1,5 +1,5 @@
 -- The proleptic Gregorian calendar, with a year 0, counted year by year and month by month.
-use Rattle.std.specs.Prelude.{ℕ, zero, suc, ◌+◌, ◌-◌, ◌*◌, ◌%◌, ◌≤◌, Bool, not, ◌&&◌, ◌||◌, ◌==◌, if◌then◌else◌, ℤ, pos, negsuc, ◌+ℤ◌, ◌-ℤ◌, ◌*ℤ◌, ◌≤ℤ◌, neg_ℤ, unsigned_abs}
+use Rattle.std.specs.Prelude.{◌≡◌, ℕ, zero, suc, ◌+◌, ◌-◌, ◌*◌, ◌%◌, ◌≤◌, Bool, not, ◌&&◌, ◌||◌, ◌==◌, if◌then◌else◌, [], ◌∷◌, slice_index, ℤ, pos, negsuc, ◌+ℤ◌, ◌-ℤ◌, ◌*ℤ◌, ◌<ℤ◌, ◌≤ℤ◌, neg_ℤ, unsigned_abs}
 use Rattle.std.specs.Int.{int_div_euclid, int_rem_euclid}
 
 -- 4 divides the year and 100 does not, or 400 divides it
@@ -48,6 +48,14 @@ day_of y m d = year_start y +ℤ pos (days_of_months y (m - 1) + (d - 1))
 abbrev pub weekday_of : ℤ → ℤ
 weekday_of day = int_rem_euclid (day +ℤ pos 3) (pos 7)
 
+-- the kind of a year: the weekday of 1 January, and 7 more in a leap year
+unfoldable pub year_kind : ℤ → ℕ
+year_kind y = unsigned_abs (weekday_of (year_start y)) + (if is_leap_year y then 7 else 0)
+
+-- a year of each kind, all from 2000 to 2024
+abbrev pub example_year : ℕ → ℤ
+example_year k = pos (slice_index (2001 ∷ 2002 ∷ 2003 ∷ 2009 ∷ 2010 ∷ 2005 ∷ 2006 ∷ 2024 ∷ 2008 ∷ 2020 ∷ 2004 ∷ 2016 ∷ 2000 ∷ 2012 ∷ []) k)
+
 -- the wall second of a clock time on a day; its hours may pass 23
 abbrev pub wall_second : ℤ → ℕ → ℕ → ℕ → ℤ
 wall_second day hour minute second = pos 86400 *ℤ day +ℤ pos (3600 * hour + 60 * minute + second)
@@ -69,3 +77,13 @@ pub record IsDate (y : ℤ) (m d : ℕ) : Type 0 where
 pub record IsDay (day : ℤ) : Type 0 where
   pub first : negsuc 96465291 ≤ℤ day
   pub last : day ≤ℤ pos 95026236
+
+-- the day of this number is this date of the calendar
+pub record IsDateOf (day y : ℤ) (m d : ℕ) : Type 0 where
+  pub exists : IsDate y m d
+  pub is : day_of y m d ≡ day
+
+-- the day lies in the year
+pub record HoldsDay (y day : ℤ) : Type 0 where
+  pub begun : year_start y ≤ℤ day
+  pub not_over : day <ℤ year_start (y +ℤ pos 1)

@@ -1,6 +1,9 @@
-ghost use Rattle.std.specs.Prelude.{◌≡◌, ◌-◌, ◌≤◌, ◌↔◌, ℤ, pos, negsuc, ◌≤ℤ◌, IsSome, IfSome, IsTrue};
-ghost use Rattle.civil.specs.Calendar.{is_leap_year, days_in_month, days_of_months, year_start, leap_days_to, day_of, IsDate, IsDay};
+ghost use Rattle.std.specs.Prelude.{◌≡◌, ◌+◌, ◌-◌, ◌<◌, ◌≤◌, ◌↔◌, ℕ, ℤ, pos, ◌+ℤ◌, IsSome, IfSome};
+ghost use Rattle.civil.specs.Calendar.{days_in_year, days_of_months, year_start, day_of, weekday_of, HoldsDay, IsDate, IsDay, IsDateOf};
+ghost use Rattle.civil.specs.Weekdays.{days_from_monday};
 
+use crate::calendar::{days_before_month, days_before_year, month_length, year_of_day};
+use crate::weekday::Weekday;
 use std::marker::Model;
 
 /// A day of the proleptic Gregorian calendar, from -262143-01-01 to +262142-12-31.
@@ -27,56 +30,6 @@ const FIRST_YEAR: i32 = -262_143;
 
 const LAST_YEAR: i32 = 262_142;
 
-// The day of a common year, from 0, on which each month begins.
-const MONTH_STARTS: [u16; 12] = [0, 31, 59, 90, 120, 151, 181, 212, 243, 273, 304, 334];
-
-fn is_leap(year: i32) -> bool
-    ensures { IsTrue result ↔ IsTrue (is_leap_year year) }
-{
-    year % 4 == 0 && (year % 100 != 0 || year % 400 == 0)
-}
-
-fn month_length(year: i32, month: u32) -> u32
-    ensures { result ≡ days_in_month year month }
-{
-    match month {
-        2 => { if is_leap(year) { 29 } else { 28 } }
-        4 | 6 | 9 | 11 => 30,
-        _ => 31,
-    }
-}
-
-// The leap days of the years up to this one, less those up to the year 0.
-fn leap_days(years: i64) -> i64
-    requires low { negsuc 3000000000 ≤ℤ years }
-    requires high { years ≤ℤ pos 3000000000 }
-    ensures { result ≡ leap_days_to years }
-{
-    years.div_euclid(4) - years.div_euclid(100) + years.div_euclid(400)
-}
-
-// The day number of 1 January.
-fn days_before_year(year: i32) -> i64
-    ensures { result ≡ year_start year }
-{
-    let years = year as i64 - 1;
-    365 * years + leap_days(years) - 719_162
-}
-
-// The days of the year before the month.
-fn days_before_month(year: i32, month: u32) -> u32
-    requires low { 1 ≤ month }
-    requires high { month ≤ 12 }
-    ensures { result ≡ days_of_months year (month - 1) }
-{
-    let days = MONTH_STARTS[month as usize - 1] as u32;
-    if month > 2 && is_leap(year) {
-        days + 1
-    } else {
-        days
-    }
-}
-
 impl NaiveDate {
     /// The first date, -262143-01-01: day -96,465,292.
     pub const MIN: NaiveDate = NaiveDate { day: -96_465_292 };
@@ -98,15 +51,119 @@ impl NaiveDate {
         if day < 1 || day > month_length(year, month) {
             return None;
         }
-        let number = days_before_year(year) + (days_before_month(year, month) + (day - 1)) as i64;
+        let number = days_before_year(year)
+            + (days_before_month(year, month as u8) as u32 + (day - 1)) as i64;
         Some(NaiveDate { day: number as i32 })
     }
 
     /// The day number, in days since 1970-01-01, which is day 0: from -96,465,292 for
     /// [`MIN`](NaiveDate::MIN) to 95,026,236 for [`MAX`](NaiveDate::MAX).
     pub fn day_number(&self) -> i64
-        ensures { result ≡ self.now }
+        ensures value { result ≡ self.now }
+        ensures range { IsDay result }
     {
         self.day as i64
+    }
+
+    /// The date of this day number; `None` exactly where it is below -96,465,292 or above 95,026,236.
+    pub fn from_day(day: i64) -> Option<NaiveDate>
+        ensures some { IsSome result ↔ IsDay day }
+        ensures value { IfSome result (λ date. date ≡ day) }
+    {
+        if day < NaiveDate::MIN.day_number() || day > NaiveDate::MAX.day_number() {
+            return None;
+        }
+        Some(NaiveDate { day: day as i32 })
+    }
+}
+
+/// What has a year, a month and a day of the month.
+pub trait Datelike: Sized {
+    /// The day number.
+    ghost number: { Self → ℤ };
+
+    /// The year.
+    fn year(&self) -> i32
+        ensures { (m : ℕ) × (d : ℕ) × IsDateOf (number self.now) result m d };
+
+    /// The month, from 1 for January to 12.
+    fn month(&self) -> u32
+        ensures { (y : ℤ) × (d : ℕ) × IsDateOf (number self.now) y result d };
+
+    /// The day of the month, from 1.
+    fn day(&self) -> u32
+        ensures { (y : ℤ) × (m : ℕ) × IsDateOf (number self.now) y m result };
+
+    /// The day of the week.
+    fn weekday(&self) -> Weekday
+        ensures { pos (days_from_monday result) ≡ weekday_of (number self.now) };
+}
+
+// The month of the day of a year that has so many days of the year before it.
+fn month_at(year: i32, ordinal: u16) -> u8
+    requires { ordinal < days_in_year year }
+    ensures from { 1 ≤ result }
+    ensures to { result ≤ 12 }
+    ensures begun { days_of_months year (result - 1) ≤ ordinal }
+    ensures not_over { ordinal < days_of_months year result }
+{
+    // no month has more days than 32, and the months so far have together 32 days fewer at most
+    let month = (ordinal / 32) as u8 + 1;
+    if month < 12 && days_before_month(year, month + 1) <= ordinal {
+        month + 1
+    } else {
+        month
+    }
+}
+
+// The year of a day number.
+fn year_in(day: i64) -> i32
+    requires { IsDay day }
+    ensures { HoldsDay result day }
+{
+    match year_of_day(day) {
+        Some(year) => year,
+        None => unreachable!(),
+    }
+}
+
+// The days of the year before a day.
+fn ordinal_in(year: i32, day: i64) -> u16
+    requires { HoldsDay year day }
+    ensures value { day ≡ year_start year +ℤ pos result }
+    ensures few { result < days_in_year year }
+{
+    (day - days_before_year(year)) as u16
+}
+
+// Year, month and day of a day number.
+pub(crate) fn year_month_day(day: i64) -> (i32, u32, u32)
+    requires { IsDay day }
+    ensures { IsDateOf day result.0 result.1 result.2 }
+{
+    let year = year_in(day);
+    let ordinal = ordinal_in(year, day);
+    let month = month_at(year, ordinal);
+    let day_of_month = ordinal - days_before_month(year, month) + 1;
+    (year, month as u32, day_of_month as u32)
+}
+
+impl Datelike for NaiveDate {
+    ghost number = { λ d. d };
+
+    fn year(&self) -> i32 {
+        year_month_day(self.day as i64).0
+    }
+
+    fn month(&self) -> u32 {
+        year_month_day(self.day as i64).1
+    }
+
+    fn day(&self) -> u32 {
+        year_month_day(self.day as i64).2
+    }
+
+    fn weekday(&self) -> Weekday {
+        Weekday::from_monday((self.day as i64 + 3).rem_euclid(7) as u8)
     }
 }

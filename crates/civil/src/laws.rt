@@ -1,6 +1,6 @@
 ghost use Rattle.std.specs.Prelude.{◌≡◌, pos, negsuc};
 ghost use Rattle.civil.specs.Calendar.{day_of};
-ghost use Rattle.civil.specs.Laws.{CountsYears, DatesAreDays};
+ghost use Rattle.civil.specs.Laws.{CountsYears, DatesAreDays, KindsOfYear, YearsRepeat};
 
 use crate::date::NaiveDate;
 
@@ -11,9 +11,20 @@ pub fn counts_years()
 {}
 
 /// Dates and day numbers correspond one to one, in the same order: each date has a day number of
-/// the calendar, an earlier date has a smaller one, and each day number is that of a date.
+/// the calendar, an earlier date has a smaller one, and each day number is that of one date.
 pub fn dates_are_days()
     ensures { DatesAreDays }
+{}
+
+/// Years of one kind, as `year_kind` tells it, have the same month lengths and the same weekday at the same place of the
+/// year, and each of the 14 kinds occurs in any 400 years in a row.
+pub fn kinds_of_year()
+    ensures { KindsOfYear }
+{}
+
+/// The calendar repeats after 400 years, which are 146,097 days.
+pub fn years_repeat()
+    ensures { YearsRepeat }
 {}
 
 /// The first and the last date, with their day numbers.

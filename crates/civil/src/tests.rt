@@ -1,4 +1,7 @@
-use crate::NaiveDate;
+use crate::{
+    Datelike, NaiveDate, NaiveDateTime, NaiveTime, TimeDelta, days_before_month, days_before_year,
+    year_kind, year_of_day,
+};
 
 #[test]
 fn dates_are_numbered(rt: HostRuntime) {
@@ -47,4 +50,121 @@ fn dates_compare_as_days(rt: HostRuntime) {
     assert!(rt; eve < new_year && eve != new_year);
     assert!(rt; NaiveDate::from_ymd_opt(-262_143, 1, 1) == Some(NaiveDate::MIN));
     assert!(rt; NaiveDate::from_ymd_opt(262_142, 12, 31) == Some(NaiveDate::MAX));
+}
+
+#[test]
+fn days_have_dates(rt: HostRuntime) {
+    let rows: [(i64, i32, u32, u32); 10] = [
+        (0, 1970, 1, 1),
+        (-1, 1969, 12, 31),
+        (17_613, 2018, 3, 23),
+        (11_016, 2000, 2, 29),
+        (11_017, 2000, 3, 1),
+        (-25_508, 1900, 3, 1),
+        (-719_469, 0, 2, 29),
+        (2_932_896, 9999, 12, 31),
+        (-96_465_292, -262_143, 1, 1),
+        (95_026_236, 262_142, 12, 31),
+    ];
+    for (number, year, month, day) in rows {
+        let date = NaiveDate::from_day(number).expect(&rt, "a date");
+        assert_eq!(rt; date.day_number(), number);
+        assert_eq!(rt;
+            (date.year(), date.month(), date.day()),
+            (year, month, day),
+            "{number}"
+        );
+    }
+    assert!(rt; NaiveDate::from_day(-96_465_293).is_none());
+    assert!(rt; NaiveDate::from_day(95_026_237).is_none());
+}
+
+#[test]
+fn years_have_days(rt: HostRuntime) {
+    assert_eq!(rt; days_before_year(1970), 0);
+    assert_eq!(rt; days_before_year(2018), 17_532);
+    assert_eq!(rt; days_before_year(i32::MIN), -784_353_015_833);
+    assert_eq!(rt; days_before_month(2024, 3), 60);
+    assert_eq!(rt; days_before_month(2023, 3), 59);
+    assert_eq!(rt; year_of_day(17_613), Some(2018));
+    assert_eq!(rt; year_of_day(-784_353_015_833), Some(i32::MIN));
+    assert_eq!(rt; year_of_day(784_351_576_776), Some(i32::MAX));
+    assert_eq!(rt; year_of_day(784_351_576_777), None);
+    assert_eq!(rt; year_of_day(i64::MIN), None);
+}
+
+#[test]
+fn years_have_kinds(rt: HostRuntime) {
+    assert_eq!(rt; year_kind(2018), 0);
+    assert_eq!(rt; year_kind(2000), 12);
+    assert_eq!(rt; year_kind(1970), 3);
+    assert_eq!(rt; year_kind(-400), year_kind(2000));
+}
+
+#[test]
+fn dates_move(rt: HostRuntime) {
+    let rows: [(i32, u32, u32, u32, i64); 5] = [
+        (2018, 1, 31, 1, 17_590),
+        (2020, 1, 31, 1, 18_321),
+        (2018, 1, 31, 0, 17_562),
+        (2017, 12, 31, 1, 17_562),
+        (2016, 2, 29, 12, 17_225),
+    ];
+    for (year, month, day, months, number) in rows {
+        let date = NaiveDate::from_ymd_opt(year, month, day).expect(&rt, "a date");
+        let moved = date.checked_add_months(months).expect(&rt, "a moved date");
+        assert_eq!(rt;
+            moved.day_number(),
+            number,
+            "{year}-{month}-{day} and {months}"
+        );
+    }
+    let day = NaiveDate::from_day(17_613).expect(&rt, "a date");
+    assert_eq!(rt; day.weekday().num_days_from_monday(), 4);
+    let back = day.checked_sub_months(3).expect(&rt, "a date");
+    assert_eq!(rt; (back.year(), back.month(), back.day()), (2017, 12, 23));
+    let later = day
+        .checked_add_signed(TimeDelta::days(-2))
+        .expect(&rt, "a date");
+    assert_eq!(rt; later.signed_duration_since(day).num_days(), -2);
+    assert!(rt; NaiveDate::MAX.succ_opt().is_none() && NaiveDate::MIN.pred_opt().is_none());
+    assert!(rt; NaiveDate::MAX.checked_add_months(1).is_none());
+}
+
+#[test]
+fn wall_times_move(rt: HostRuntime) {
+    let day = NaiveDate::from_day(-1).expect(&rt, "a date");
+    let time = NaiveTime::from_hms_nano_opt(23, 59, 59, 1_500_000_000).expect(&rt, "a leap second");
+    let wall = NaiveDateTime::new(day, time);
+    assert_eq!(rt; wall.wall_second(), -1);
+    let moved = wall.moved(-1).expect(&rt, "a wall time");
+    assert_eq!(rt;
+        (
+            moved.time().hour(),
+            moved.time().minute(),
+            moved.time().second()
+        ),
+        (23, 59, 58)
+    );
+    assert_eq!(rt; moved.nanosecond(), 1_500_000_000);
+    assert_eq!(rt; moved.date().day_number(), -1);
+    assert!(rt; wall.moved(i64::MAX).is_none() && wall.moved(i64::MIN).is_none());
+    assert!(rt; NaiveTime::from_hms_opt(24, 0, 0).is_none());
+    assert!(rt; NaiveTime::from_hms_nano_opt(0, 0, 0, 1_000_000_000).is_none());
+}
+
+#[test]
+fn lengths_of_time_are_nanoseconds(rt: HostRuntime) {
+    let half = TimeDelta::new(-2, 500_000_000).expect(&rt, "a length of time");
+    assert_eq!(rt;
+        (half.num_seconds(), half.subsec_nanos()),
+        (-1, -500_000_000)
+    );
+    assert!(rt; half < TimeDelta::seconds(-1) && half > TimeDelta::seconds(-2));
+    assert!(rt; TimeDelta::new(9_223_372_036_854_775, 807_000_000).is_some());
+    assert!(rt; TimeDelta::new(9_223_372_036_854_775, 807_000_001).is_none());
+    assert!(rt;
+        TimeDelta::try_weeks(i64::MAX).is_none() && TimeDelta::try_minutes(i64::MIN).is_none()
+    );
+    assert_eq!(rt; TimeDelta::weeks(-1).num_days(), -7);
 }

@@ -1,114 +1,203 @@
--- A line has one answer, and lines have one report.
-use Rattle.std.proofs.Common.{◌≡◌, ◌⊎◌, inl, inr, ℕ, ◌+◌, ◌-◌, ◌*◌, ◌<◌, ◌≤◌, Bool, true, false, nat_lt, MatchBool, MatchOption, List, [], ◌∷◌, Option, Some, None, ℤ, refl, sym, ap, ◌∙◌, subst, arith, unwrap_or, codes, ◌-ℤ◌, unsigned_abs}
-use Rattle.std.proofs.Math.Nat.{lt_of_mul-lt-mul_right, mul-le-mul_right}
-use Rattle.std.proofs.lemmas.Bool.Decides.{nat_tests}
-use Rattle.zoneinfo64.specs.Placement.{IsPlaced}
-use Rattle.zoneinfo64.proofs.Places.{placed-once}
-use Rattle.zoneinfo64.specs.Zone.{PlainZone}
+-- A line has one reply, and lines have one report.
+use Rattle.std.proofs.Common.{◌≡◌, ◌⊎◌, inl, inr, ℕ, ◌*◌, ◌/◌, Bool, false, true, MatchOption, List, [], ◌∷◌, ◌++◌, Option, Some, None, Result, Ok, Err, ℤ, refl, sym, ap, ◌∙◌, subst, codes, int_lt, pos, unsigned_abs}
+use Rattle.std.proofs.lemmas.Option.{none-some, same_Some}
+use Rattle.tongues.specs.Speech.{Speech}
+use Rattle.timeago.specs.Words.{IsWords}
+use Rattle.timeago.specs.Laws.{OneText}
+use Rattle.timeline.specs.declared.fault.ZoneFault.{ZoneFault}
+use Rattle.timeline.specs.Zone.{PlainZone}
+use Rattle.timeline.specs.Laws.{IsLawful}
+use Rattle.timeline.specs.Promises.{OneVerdict}
 use Rattle.zoneinfo64.specs.NamedZone.{NamedZone, named}
-use Rattle.zoneinfo64.specs.Timeline.{offset_at}
+use Rattle.timeline.specs.Placement.{seconds_at}
+use Rattle.interim.specs.declared.errors.DateError.{DateError}
+use Rattle.interim.specs.declared.errors.DateError.TheVariants as errors
+use Rattle.interim.specs.declared.types.DateSpec.{DateSpec}
+use Rattle.interim.specs.declared.types.DateTimeSpec.{DateTimeSpec}
+use Rattle.interim.specs.declared.types.Dialect.{Dialect}
+use Rattle.interim.specs.declared.types.TimeSpec.{TimeSpec}
+use Rattle.interim.specs.Grammar.{parts_of}
+use Rattle.interim.specs.Meaning.{MeansIn}
+use Rattle.interim.specs.MeaningLaws.{OneMeaning}
+use Rattle.interim.specs.PlainForm.{IsPlainForm}
+use Rattle.interim.specs.Refusal.{AnswersPhrase, IsRefusedAs, civil_days, civil_seconds}
+use Rattle.interim.specs.Tokens.{phrase_tokens}
+use Rattle.streams.specs.Report.{OneReply, OneReport}
 use Rattle.tell.specs.Fields.{LineFields, fields_of}
-use Rattle.tell.specs.PlainForm.{IsPlainForm, plain_wall}
-use Rattle.tell.specs.Units.{unit_size}
-use Rattle.tell.specs.Counts.{Settings, Counts, allowed_unit, lower, higher, biggest, u64_max}
-use Rattle.tell.specs.Speech.{Speech, english}
-use Rattle.tell.specs.Words.{IsWords, told_text}
-use Rattle.tell.specs.Answer.{IsMoment, IsDistance, IsAnswerIn, IsUnbuilt, moment_line, settings_for}
-use Rattle.tell.specs.Promises.{OneAnswer, OneReport}
-use Rattle.tell.specs.declared.unit.TimeUnit.{TimeUnit}
+use Rattle.tell.specs.Moments.{IsBase, Says}
+use Rattle.tell.specs.Voices.{Voices, voice_for, voices_of, IsToldBy}
+use Rattle.tell.specs.Replies.{Reply, BadLine, UnknownZone, BadBase, Unlawful, Fault, Moment, Tale, IsTale, IsTold, IsMomentOfWall, TellsPhrase, IsReplyOf, IsReplyIn, IsReplyTo, lead}
+use Rattle.tell.specs.ReplyTexts.{IsReply, reply_text}
+use Rattle.tell.specs.Ago.{IsAgoAnswer, IsAgoReply, seconds_of}
+use Rattle.timeago.specs.Settings.{three_count_settings}
+use Rattle.tell.specs.Promises.{OneReplyToDates, OneAgoAnswer, EveryMeaningIsTold, EveryPlainFormIsTold, IsReplyAt}
 
--- no unit that is told is below the least one
-higher_least : (a b : TimeUnit) → unit_size a ≤ unit_size (higher a b)
-higher_least a b = grind (arith, nat_tests)
+-- ---- what a phrase says
 
-least_told : (f : Settings) (rest : ℕ) → unit_size f.min_unit ≤ unit_size (allowed_unit f rest)
-unfolding allowed_unit
-least_told f rest = higher_least f.min_unit (lower (biggest rest) f.max_unit)
+-- the refusal of parts that have no meaning
+abbrev missing : Option DateSpec → DateError
+missing (Some date) = errors.MissingDate
+missing None = errors.MissingTime
 
--- so nothing is told of a rest below the least unit
-nothing_told : (least unit rest n : ℕ) → least ≤ unit → 1 ≤ n → n * unit ≤ rest → rest < least → ⊥
-nothing_told least unit rest n h one within low = let grown = mul-le-mul_right unit one in omega arith
+refused_as : (e : DateError) (date : Option DateSpec) (P : Type 0) → IsRefusedAs false e date P → (e ≡ missing date) × P
+refused_as errors.MissingDate (Some date) P h = (refl, h)
+refused_as errors.MissingDate None P h = absurd h
+refused_as errors.MissingTime None P h = (refl, h)
+refused_as errors.MissingTime (Some date) P h = absurd h
+refused_as errors.Memory date P h = let never : false ≡ true = h in cc
+refused_as (errors.ExpectedToken expected span) date P h = absurd h
+refused_as (errors.EndOfText expected) date P h = absurd h
+refused_as errors.UnexpectedDate date P h = absurd h
+refused_as errors.UnexpectedAbsoluteDate date P h = absurd h
+refused_as errors.UnexpectedTime date P h = absurd h
 
--- of two counts of a unit in a rest neither is greater
-no_greater : (s rest a b : ℕ) → b * s ≤ rest → b ≤ u64_max → (rest < (a + 1) * s) ⊎ (a ≡ u64_max) → b ≤ a
-no_greater s rest a b within small (inl lt) =
-    let less : b * s < (a + 1) * s = omega arith in
-    let below = lt_of_mul-lt-mul_right s less in
-    omega arith
-no_greater s rest a b within small (inr most) = omega arith
+abbrev Meanings : Type 1
+Meanings = Option DateSpec → Option TimeSpec → Option (ℤ × ℕ) → Type 0
 
-same_head : (x y : TimeUnit × ℕ) (xs ys : List (TimeUnit × ℕ)) → x.0 ≡ y.0 → x.1 ≡ y.1 → xs ≡ ys → x ∷ xs ≡ y ∷ ys
-same_head x y xs ys e f g =
-    let head : x ≡ y = λ i. (e i, f i) in
-    cc
+abbrev IsOnce : Meanings → Type 0
+IsOnce M = (date : Option DateSpec) (clock : Option TimeSpec) (r r' : Option (ℤ × ℕ)) → M date clock r → M date clock r' → r ≡ r'
 
-pub counts_once : (f : Settings) (items rest : ℕ) (xs ys : List (TimeUnit × ℕ)) → Counts f items rest xs → Counts f items rest ys → xs ≡ ys
-counts_once f items rest [] [] p q = refl
-counts_once f items rest [] (y ∷ ys) (inl none) (some, unit, one, small, within, next, more) = absurd (omega arith)
-counts_once f items rest [] (y ∷ ys) (inr low) (some, unit, one, small, within, next, more) =
-    absurd (nothing_told (unit_size f.min_unit) (unit_size y.0) rest y.1 (rw unit (least_told f rest)) one within low)
-counts_once f items rest (x ∷ xs) [] (some, unit, one, small, within, next, more) (inl none) = absurd (omega arith)
-counts_once f items rest (x ∷ xs) [] (some, unit, one, small, within, next, more) (inr low) =
-    absurd (nothing_told (unit_size f.min_unit) (unit_size x.0) rest x.1 (rw unit (least_told f rest)) one within low)
-counts_once f items rest (x ∷ xs) (y ∷ ys) (some, unit, one, small, within, next, more) (some', unit', one', small', within', next', more') =
-    let units : x.0 ≡ y.0 = unit ∙ sym unit' in
-    let size : unit_size x.0 ≡ unit_size y.0 = ap unit_size units in
-    let low : y.1 ≤ x.1 = no_greater (unit_size x.0) rest x.1 y.1 (rw size within') small' next in
-    let high : x.1 ≤ y.1 = no_greater (unit_size y.0) rest y.1 x.1 (rw size at within) small next' in
-    let counts : x.1 ≡ y.1 = omega arith in
-    let left : rest - x.1 * unit_size x.0 ≡ rest - y.1 * unit_size y.0 = rw (counts, size) refl in
-    same_head x y xs ys units counts (counts_once f (items - 1) (rest - x.1 * unit_size x.0) xs ys more (subst (λ (n : ℕ). Counts f (items - 1) n ys) (sym left) more'))
+abbrev Answer : Type 0
+Answer = Result (ℤ × ℕ) DateError
 
-told_once : (v : Bool) (s : Speech) (f : Settings) (d : ℕ) (high a b : List ℕ)
-    → MatchBool v (a ≡ high) ((list : List (TimeUnit × ℕ)) × Counts f f.items d list × (a ≡ told_text s f list))
-    → MatchBool v (b ≡ high) ((list : List (TimeUnit × ℕ)) × Counts f f.items d list × (b ≡ told_text s f list)) → a ≡ b
-told_once true s f d high a b p q = p ∙ sym q
-told_once false s f d high a b (xs, p, e) (ys, q, g) = e ∙ ap (told_text s f) (counts_once f f.items d xs ys p q) ∙ sym g
+answers_once : (parts : Result DateTimeSpec DateError) (M : Meanings) (a b : Answer) → IsOnce M
+    → AnswersPhrase false (λ moment. moment) parts M a → AnswersPhrase false (λ moment. moment) parts M b → a ≡ b
+answers_once (Err fault) M a b once p q = p ∙ sym q
+answers_once (Ok parts) M (Ok x) (Ok y) once p q = ap (λ (m : ℤ × ℕ). Ok m) (same_Some x y (once parts.date parts.time (Some x) (Some y) p q))
+answers_once (Ok parts) M (Ok x) (Err e) once p q =
+    let none = refused_as e parts.date (M parts.date parts.time None) q in
+    absurd (none-some x (once parts.date parts.time None (Some x) none.1 p))
+answers_once (Ok parts) M (Err e) (Ok y) once p q =
+    let none = refused_as e parts.date (M parts.date parts.time None) p in
+    absurd (none-some y (once parts.date parts.time None (Some y) none.1 q))
+answers_once (Ok parts) M (Err e) (Err e') once p q =
+    let first = refused_as e parts.date (M parts.date parts.time None) p in
+    let second = refused_as e' parts.date (M parts.date parts.time None) q in
+    ap (λ (x : DateError). Err x) (first.0 ∙ sym second.0)
 
--- a distance has one text
-pub words_once : (s : Speech) (f : Settings) (d : ℕ) (a b : List ℕ) → IsWords s f d a → IsWords s f d b → a ≡ b
-words_once s f d a b p q = told_once (nat_lt f.max_duration d) s f d (unwrap_or f.high s.high) a b p q
+says_once : OneMeaning → (z : PlainZone) (dialect : Dialect) (base : ℤ) (phrase : List ℕ) (a b : Answer) → Says z dialect base phrase a → Says z dialect base phrase b → a ≡ b
+unfolding Says
+says_once one z dialect base phrase a b p q =
+    answers_once (parts_of dialect (phrase_tokens phrase)) (MeansIn (seconds_at z) civil_days civil_seconds (base, 0) dialect) a b
+    (λ date clock r r' is is'. one.once (seconds_at z) civil_days civil_seconds (base, 0) dialect date clock r r' is is') p q
 
--- a phrase has one wall second
-pub wall_once : (phrase : List ℕ) (v w : ℤ) → IsPlainForm phrase v → IsPlainForm phrase w → v ≡ w
-wall_once phrase v w (t, e, exists, is) (t', e', exists', is') =
-    let same : t ≡ t' = cc (sym e ∙ e') in
-    is ∙ ap plain_wall same ∙ sym is'
+-- ---- replies
 
-moment_or_not : (z : PlainZone) (f : LineFields) (second offset : ℤ) → IsUnbuilt z f → IsMoment z f second offset → ⊥
-moment_or_not z f second offset (inl no_zone) (wall, is) = no_zone is.fixed
-moment_or_not z f second offset (inr (inl no_base)) (wall, is) = no_base is.base
-moment_or_not z f second offset (inr (inr no_form)) (wall, is) = no_form wall is.form
+-- what is replied where a phrase says this
+abbrev IsReplyBy : PlainZone → Voices → ℤ → Answer → Reply → Type 0
+IsReplyBy z voices base (Ok m) reply = IsReplyAt z voices base m.0 m.1 reply
+IsReplyBy z voices base (Err e) reply = reply ≡ Fault e
 
-answer_in_once : (f : LineFields) (z : PlainZone) (a b : List ℕ) → IsAnswerIn f z a → IsAnswerIn f z b → a ≡ b
-answer_in_once f z a b (inl (is, e)) (inl (is', e')) = e ∙ sym e'
-answer_in_once f z a b (inl (is, e)) (inr (second, offset, text, moment, words, e')) = absurd (moment_or_not z f second offset is moment)
-answer_in_once f z a b (inr (second, offset, text, moment, words, e)) (inl (is, e')) = absurd (moment_or_not z f second offset is moment)
-answer_in_once f z a b (inr (second, offset, text, (wall, is), words, e)) (inr (second', offset', text', (wall', is'), words', e')) =
-    let walls = wall_once f.phrase wall wall' is.form is'.form in
-    let seconds : second ≡ second' = placed-once z wall second second' is.placed (subst (λ (w : ℤ). IsPlaced z w second') (sym walls) is'.placed) in
-    let offsets : offset ≡ offset' = is.offset_there ∙ ap (λ (s : ℤ). (offset_at z s).offset) seconds ∙ sym is'.offset_there in
-    let texts : text ≡ text' = words_once english (settings_for f.base second) (1000000000 * unsigned_abs (second -ℤ f.base)) text text' words (subst (λ (s : ℤ). IsDistance f.base s text') (sym seconds) words') in
-    let lines : moment_line f.base second offset text ≡ moment_line f.base second' offset' text' = rw (seconds, offsets, texts) refl in
-    e ∙ lines ∙ sym e'
+record IsSaid (z : PlainZone) (voices : Voices) (f : LineFields) (reply : Reply) : Type 0 where
+  answer : Answer
+  says : Says z f.dialect f.base f.phrase answer
+  is : IsReplyBy z voices f.base answer reply
 
-answer_with : (zone : Option PlainZone) (f : LineFields) (a b : List ℕ)
-    → MatchOption zone (a ≡ codes "! unknown zone") (λ z. IsAnswerIn f z a) → MatchOption zone (b ≡ codes "! unknown zone") (λ z. IsAnswerIn f z b) → a ≡ b
-answer_with None f a b p q = p ∙ sym q
-answer_with (Some z) f a b p q = answer_in_once f z a b p q
+said_of : (z : PlainZone) (voices : Voices) (f : LineFields) (reply : Reply) → TellsPhrase z voices f reply → IsSaid z voices f reply
+said_of z voices f (Moment t) (second, nanos, says, tale) = record { answer = Ok (second, nanos); says = says; is = (t, refl, tale) }
+said_of z voices f (Fault e) says = record { answer = Err e; says = says; is = refl }
+said_of z voices f BadLine told = absurd told
+said_of z voices f UnknownZone told = absurd told
+said_of z voices f BadBase told = absurd told
+said_of z voices f (Unlawful fault) told = absurd told
 
-answer_for : (fields : Option LineFields) (zones : List NamedZone) (a b : List ℕ)
-    → MatchOption fields (a ≡ codes "! unbuilt") (λ f. MatchOption (named zones f.zone) (a ≡ codes "! unknown zone") (λ z. IsAnswerIn f z a))
-    → MatchOption fields (b ≡ codes "! unbuilt") (λ f. MatchOption (named zones f.zone) (b ≡ codes "! unknown zone") (λ z. IsAnswerIn f z b)) → a ≡ b
-answer_for None zones a b p q = p ∙ sym q
-answer_for (Some f) zones a b p q = answer_with (named zones f.zone) f a b p q
+-- a moment is told in one way
+same_tale : (t u : Tale) → t.seconds ≡ u.seconds → t.micros ≡ u.micros → t.offset ≡ u.offset → t.ahead ≡ u.ahead → t.text ≡ u.text → t ≡ u
+same_tale t u a b c d e = λ i. record { seconds = a i; micros = b i; offset = c i; ahead = d i; text = e i }
 
-pub one_answer : OneAnswer
-one_answer zones line a b p q = answer_for (fields_of line) zones a b p q
+tale_once : OneText → (z : PlainZone) (voices : Voices) (base second : ℤ) (nanos : ℕ) (t u : Tale) → IsTale z voices base second nanos t → IsTale z voices base second nanos u → t ≡ u
+tale_once one z voices base second nanos t u p q =
+    let distance = unsigned_abs (lead base second nanos) in
+    let side = p.ahead ∙ sym q.ahead in
+    let voice = voice_for voices t.ahead in
+    let (text, is, once) = one voice.speech voice.settings distance in
+    let words : IsToldBy voice distance u.text = subst (λ (b : Bool). IsToldBy (voice_for voices b) distance u.text) (sym side) q.text in
+    same_tale t u (p.seconds ∙ sym q.seconds) (p.micros ∙ sym q.micros) (p.offset ∙ sym q.offset) side (once t.text p.text ∙ sym (once u.text words))
 
-pub one_report : OneReport
-one_report zones [] a b p q = p ∙ sym q
-one_report zones (line ∷ lines) a b (answer, others, is, told, e) (answer', others', is', told', e') =
-    let first = one_answer zones line answer answer' is is' in
-    let later = one_report zones lines others others' told told' in
-    e ∙ rw (first, later) refl ∙ sym e'
+by_once : OneText → (z : PlainZone) (voices : Voices) (base : ℤ) (answer : Answer) (a b : Reply) → IsReplyBy z voices base answer a → IsReplyBy z voices base answer b → a ≡ b
+by_once one z voices base (Ok m) a b (t, e, p) (u, g, q) = e ∙ ap (λ (x : Tale). Moment x) (tale_once one z voices base m.0 m.1 t u p q) ∙ sym g
+by_once one z voices base (Err e) a b p q = p ∙ sym q
+
+told_once : OneText → OneMeaning → (z : PlainZone) (voices : Voices) (f : LineFields) (a b : Reply) → IsTold z voices f a → IsTold z voices f b → a ≡ b
+told_once text meaning z voices f a b p q =
+    let x = said_of z voices f a p.said in
+    let y = said_of z voices f b q.said in
+    let same = says_once meaning z f.dialect f.base f.phrase x.answer y.answer x.says y.says in
+    by_once text z voices f.base y.answer a b (subst (λ (r : Answer). IsReplyBy z voices f.base r a) same x.is) y.is
+
+abbrev FromBase : PlainZone → Voices → LineFields → Reply → Type 0
+FromBase z voices f reply = ((IsBase f.base → ⊥) × (reply ≡ BadBase)) ⊎ (IsBase f.base × IsTold z voices f reply)
+
+from_once : OneText → OneMeaning → (z : PlainZone) (voices : Voices) (f : LineFields) (a b : Reply) → FromBase z voices f a → FromBase z voices f b → a ≡ b
+from_once text meaning z voices f a b (inl (none, e)) (inl (none', e')) = e ∙ sym e'
+from_once text meaning z voices f a b (inl (none, e)) (inr (is, q)) = absurd (none is)
+from_once text meaning z voices f a b (inr (is, p)) (inl (none, e)) = absurd (none is)
+from_once text meaning z voices f a b (inr (is, p)) (inr (is', q)) = told_once text meaning z voices f a b p q
+
+of_once : OneText → OneMeaning → OneVerdict → (z : PlainZone) (voices : Voices) (f : LineFields) (a b : Reply) → IsReplyOf z voices f a → IsReplyOf z voices f b → a ≡ b
+unfolding IsReplyOf
+of_once text meaning verdict z voices f a b (inl (x, p, e)) (inl (y, q, g)) = e ∙ ap (λ (fault : ZoneFault). Unlawful fault) (verdict.one_least z x y p q) ∙ sym g
+of_once text meaning verdict z voices f a b (inl (x, p, e)) (inr (lawful, q)) = absurd (verdict.not_both z x lawful p)
+of_once text meaning verdict z voices f a b (inr (lawful, p)) (inl (y, q, g)) = absurd (verdict.not_both z y lawful q)
+of_once text meaning verdict z voices f a b (inr (lawful, p)) (inr (lawful', q)) = from_once text meaning z voices f a b p q
+
+zone_once : OneText → OneMeaning → OneVerdict → (zone : Option PlainZone) (voices : Voices) (f : LineFields) (a b : Reply)
+    → MatchOption zone (a ≡ UnknownZone) (λ z. IsReplyOf z voices f a) → MatchOption zone (b ≡ UnknownZone) (λ z. IsReplyOf z voices f b) → a ≡ b
+zone_once text meaning verdict None voices f a b p q = p ∙ sym q
+zone_once text meaning verdict (Some z) voices f a b p q = of_once text meaning verdict z voices f a b p q
+
+line_once : OneText → OneMeaning → OneVerdict → (fields : Option LineFields) (voices : Voices) (zones : List NamedZone) (a b : Reply)
+    → MatchOption fields (a ≡ BadLine) (λ f. IsReplyIn voices zones f a) → MatchOption fields (b ≡ BadLine) (λ f. IsReplyIn voices zones f b) → a ≡ b
+line_once text meaning verdict None voices zones a b p q = p ∙ sym q
+line_once text meaning verdict (Some f) voices zones a b p q = zone_once text meaning verdict (named zones f.zone) voices f a b p q
+
+pub one_reply : OneText → OneMeaning → OneVerdict → OneReplyToDates
+one_reply text meaning verdict speech zones line x y (a, p, e) (b, q, g) =
+    e ∙ ap (λ (r : Reply). reply_text r ++ 10 ∷ []) (line_once text meaning verdict (fields_of line) (voices_of speech) zones a b p q) ∙ sym g
+
+-- ---- a phrase that has a meaning
+
+in_zone : OneMeaning → OneVerdict → (z : PlainZone) (voices : Voices) (f : LineFields) (second : ℤ) (nanos : ℕ) (reply : Reply) → IsLawful z → IsBase f.base
+    → Says z f.dialect f.base f.phrase (Ok (second, nanos)) → IsReplyOf z voices f reply → IsReplyAt z voices f.base second nanos reply
+unfolding IsReplyOf
+in_zone meaning verdict z voices f second nanos reply lawful base says (inl (fault, broken, e)) = absurd (verdict.not_both z fault lawful broken)
+in_zone meaning verdict z voices f second nanos reply lawful base says (inr (_, inl (none, e))) = absurd (none base)
+in_zone meaning verdict z voices f second nanos reply lawful base says (inr (_, inr (_, told))) =
+    let x = said_of z voices f reply told.said in
+    let same = says_once meaning z f.dialect f.base f.phrase x.answer (Ok (second, nanos)) x.says says in
+    subst (λ (r : Answer). IsReplyBy z voices f.base r reply) same x.is
+
+pub meaning_told : OneMeaning → OneVerdict → EveryMeaningIsTold
+meaning_told meaning verdict voices zones f z second nanos reply has lawful base says is =
+    let P : Option PlainZone → Type 0 = λ o. MatchOption o (reply ≡ UnknownZone) (λ z. IsReplyOf z voices f reply) in
+    in_zone meaning verdict z voices f second nanos reply lawful base says (subst P has is)
+
+-- ---- a phrase of the plain form
+
+in_form : OneVerdict → (z : PlainZone) (voices : Voices) (f : LineFields) (w : ℤ) (reply : Reply) → IsLawful z → IsBase f.base → IsPlainForm f.dialect f.phrase w
+    → IsReplyOf z voices f reply → IsMomentOfWall z w reply
+unfolding IsReplyOf
+in_form verdict z voices f w reply lawful base form (inl (fault, broken, e)) = absurd (verdict.not_both z fault lawful broken)
+in_form verdict z voices f w reply lawful base form (inr (_, inl (none, e))) = absurd (none base)
+in_form verdict z voices f w reply lawful base form (inr (_, inr (_, told))) = told.plain w form
+
+pub plain_told : OneVerdict → EveryPlainFormIsTold
+plain_told verdict voices zones f z w reply has lawful base form is =
+    let P : Option PlainZone → Type 0 = λ o. MatchOption o (reply ≡ UnknownZone) (λ z. IsReplyOf z voices f reply) in
+    in_form verdict z voices f w reply lawful base form (subst P has is)
+
+-- ---- lines of seconds
+
+ago_answer : OneText → (speech : Speech) (seconds : Option ℕ) →
+    let is : List ℕ → Type 0 = λ answer. MatchOption seconds (answer ≡ codes "! bad line") (λ n. IsWords speech three_count_settings (1000000000 * n) answer) in
+    (answer : List ℕ) × is answer × ((other : List ℕ) → is other → other ≡ answer)
+ago_answer one speech None = (codes "! bad line", refl, λ other e. e)
+ago_answer one speech (Some n) = one speech three_count_settings (1000000000 * n)
+
+pub one_ago_answer : OneText → OneAgoAnswer
+one_ago_answer one speech line = ago_answer one speech (seconds_of line)
+
+pub one_ago_reply : OneText → (speech : Speech) → OneReply (IsAgoReply speech)
+one_ago_reply one speech line a b (x, is, e) (y, is', e') =
+    let (answer, said, once) = one_ago_answer one speech line in
+    e ∙ ap (λ (l : List ℕ). l ++ 10 ∷ []) (once x is ∙ sym (once y is')) ∙ sym e'

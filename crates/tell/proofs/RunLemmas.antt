@@ -1,55 +1,61 @@
--- How a run ends, and why.
-use Rattle.std.proofs.Common.{◌≤◌, Bool, true, false, Option, Some, None, IsSome, IsTrue, cond, nat_lt, subst, ◌≡◌, ℕ, ◌<◌, List, length, refl}
-use Rattle.std.proofs.lemmas.Bool.{lt-ltb, le-ltb}
-use borrow.Author.Tests.{ltb-true}
+-- How a run ends, and what stands after it.
+use Rattle.std.proofs.Common.{◌≡◌, ℕ, ◌<◌, ◌≤◌, List, [], ◌∷◌, ◌++◌, length, map, get_or, codes, Option, Some, None, IfSome, true, refl, sym, ◌∙◌, ap, subst, append-nil, arith}
+use Rattle.std.specs.Option.{option_map}
+use Rattle.std.specs.Str.{bytes_eq}
+use Rattle.timeago.specs.Codes.{coded_language}
+use Rattle.std.proofs.lemmas.Bool.{lt-ltb}
+use Rattle.std.specs.Io.KnownBytes.{Consumes, IsAtEnd}
+use Rattle.tongues.specs.Speech.{Speech}
 use Rattle.zoneinfo64.specs.NamedZone.{NamedZone}
-use Rattle.tell.specs.Run.{bundle_zones, planned_at, planned, is_command, EndsBy}
-use Rattle.tell.specs.declared.program.Status.{Status}
-use Rattle.tell.specs.declared.program.Status.TheVariants.{Done, Usage, Bundle, TooLong}
+use Rattle.streams.specs.Whole.{TookMore}
+use Rattle.streams.specs.Stands.{Stands}
+use Rattle.streams.specs.Ends.{EndsBy}
+use Rattle.streams.specs.declared.status.Status.{Status}
+use Rattle.streams.specs.declared.status.Status.TheVariants.{Bundle}
+use Rattle.tongues.specs.declared.any.AnyLanguage.{AnyLanguage}
+use Rattle.tell.specs.ReplyTexts.{IsReply}
+use Rattle.tell.specs.Run.{command_of, bundle_words, bundle_zones, planned, IsReplyWith}
+use Rattle.tell.specs.declared.program.Command.TheVariants.{At}
 
-pub bundle_over : (b i : List ℕ) → 4194304 < length b → Bundle ≡ planned_at (bundle_zones b) i
-unfolding bundle_zones
-bundle_over b i h = rw (lt-ltb 4194304 (length b) h) refl
+over_limit : (b : List ℕ) → 4194304 < length b → bundle_zones b ≡ None
+unfolding bundle_zones bundle_words
+over_limit b h = rw (lt-ltb 4194304 (length b) h) refl
 
-too_long_or_done : (v : Bool) → (Bundle ≡ cond v TooLong Done → ⊥)
-too_long_or_done true e = cc
-too_long_or_done false e = cc
+-- a bundle over the limit gives no zones
+pub bundle_over : (bundle : Option (List ℕ)) → TookMore bundle 4194304 → IfSome bundle (λ b. bundle_zones b ≡ None)
+bundle_over None long = tt
+bundle_over (Some b) long = over_limit b long
 
-bundle_case : (v : Bool) (zones : Option (List NamedZone)) (i : List ℕ) → Bundle ≡ cond v (planned_at zones i) Usage → (v ≡ true) × (zones ≡ None)
-bundle_case true None i e = (refl, refl)
-bundle_case true (Some zones) i e = absurd (too_long_or_done (nat_lt 16777216 (length i)) e)
-bundle_case false zones i e = cc
+pub ends_by_bundle : (l : AnyLanguage) (bundle input : Option (List ℕ)) → IfSome bundle (λ b. bundle_zones b ≡ None) → EndsBy (planned (Some (At l)) bundle input) Bundle
+ends_by_bundle l None input none = tt
+ends_by_bundle l (Some b) input none = rw none refl
 
-long_case : (v : Bool) (zones : Option (List NamedZone)) (i : List ℕ) → TooLong ≡ cond v (planned_at zones i) Usage → (v ≡ true) × IsSome zones × (nat_lt 16777216 (length i) ≡ true)
-long_case true None i e = cc
-long_case true (Some zones) i e = (refl, refl, over (nat_lt 16777216 (length i)) e)
-  where
-    over : (w : Bool) → TooLong ≡ cond w TooLong Done → w ≡ true
-    over true f = refl
-    over false f = cc
-long_case false zones i e = cc
+-- the bytes that were read to the end are the bundle, where it is told
+all_read : (all rest bytes : List ℕ) → all ≡ bytes ++ rest → rest ≡ [] → all ≡ bytes
+all_read all rest bytes took end = took ∙ ap (λ (l : List ℕ). bytes ++ l) end ∙ append-nil bytes
 
-done_case : (v : Bool) (zones : Option (List NamedZone)) (i : List ℕ) → v ≡ true → IsSome zones → nat_lt 16777216 (length i) ≡ false → cond v (planned_at zones i) Usage ≡ Done
-done_case true None i e some f = cc
-done_case true (Some zones) i e some f = rw f refl
-done_case false zones i e some f = cc
+-- so the zones that were read are those of the bundle
+pub zones_there : (bundle bundle' : Option (List ℕ)) (bytes : List ℕ) (zones : List NamedZone) → Consumes bundle bundle' bytes → IsAtEnd bundle' → bundle_zones bytes ≡ Some zones
+    → IfSome bundle (λ b. bundle_zones b ≡ Some zones)
+zones_there None bundle' bytes zones took end is = tt
+zones_there (Some all) None bytes zones took end is = absurd took
+zones_there (Some all) (Some rest) bytes zones took end is = ap bundle_zones (all_read all rest bytes took end) ∙ is
 
--- a refused bundle is the cause of its status
-pub bundle_cause : (args : List (List ℕ)) (b i : List ℕ) (status : Status) → EndsBy (planned args b i) status → status ≡ Bundle → IsTrue (is_command args) × (bundle_zones b ≡ None)
-bundle_cause args b i status ends is =
-    bundle_case (is_command args) (bundle_zones b) i (subst (EndsBy (planned args b i)) is ends)
+-- what stands after a run over the input stands after the command, in the zones of the bundle that was read
+pub stands_in_zones : (speech : Speech) (bundle : Option (List ℕ)) (zones : List NamedZone) (status : Status) (a b u v : Option (List ℕ))
+    → IfSome bundle (λ all. bundle_zones all ≡ Some zones) → Stands (IsReply speech zones) status a b u v
+    → IfSome bundle (λ all. Stands (IsReplyWith speech (bundle_zones all)) status a b u v)
+stands_in_zones speech None zones status a b u v is stands = tt
+stands_in_zones speech (Some all) zones status a b u v is stands =
+    subst (λ (o : Option (List NamedZone)). Stands (IsReplyWith speech o) status a b u v) (sym is) stands
 
--- and so is a long input
-pub long_cause : (args : List (List ℕ)) (b i : List ℕ) (status : Status) → EndsBy (planned args b i) status → status ≡ TooLong → IsTrue (is_command args) × IsSome (bundle_zones b) × (16777216 < length i)
-long_cause args b i status ends is =
-    let (command, some, over) = long_case (is_command args) (bundle_zones b) i (subst (EndsBy (planned args b i)) is ends) in
-    (command, some, ltb-true 16777216 (length i) over)
-
--- without these nothing is left but to be done
-pub no_cause : (args : List (List ℕ)) (b i : List ℕ) (status : Status) → EndsBy (planned args b i) status → IsTrue (is_command args) → IsSome (bundle_zones b) → length i ≤ 16777216 → EndsBy Done status
-no_cause args b i status ends command some fits =
-    subst (λ (plan : Status). EndsBy plan status) (done_case (is_command args) (bundle_zones b) i command some (le-ltb 16777216 (length i) fits)) ends
-
--- a run of the command is planned by its bundle and its input
-pub planned_command : (args : List (List ℕ)) (b i : List ℕ) → is_command args ≡ true → planned args b i ≡ planned_at (bundle_zones b) i
-planned_command args b i e = rw e refl
+-- three words of which the first is `at`
+pub at_command : {T : Type 0} (bytes : T → List ℕ) (args : List T) (at lang : T) → 3 ≤ length args → length args < 4 → at ≡ get_or args 0 at → lang ≡ get_or args 1 lang
+    → bytes_eq (bytes at) (codes "at") ≡ true → command_of (map bytes args) ≡ option_map (λ l. At l) (coded_language (bytes lang))
+at_command bytes [] at lang few many p q e = absurd (omega arith)
+at_command bytes (a ∷ []) at lang few many p q e = absurd (omega arith)
+at_command bytes (a ∷ b ∷ []) at lang few many p q e = absurd (omega arith)
+at_command bytes (a ∷ b ∷ d ∷ []) at lang few many p q e =
+    let first : bytes_eq (bytes a) (codes "at") ≡ true = rw p at e in
+    rw (first, q) refl
+at_command bytes (a ∷ b ∷ d ∷ f ∷ args) at lang few many p q e = absurd (omega arith)

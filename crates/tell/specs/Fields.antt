@@ -1,10 +1,14 @@
--- The four fields of a line (docs/ARCHITECTURE.md, "Lines").
-use Rattle.std.specs.Prelude.{ℕ, ◌+◌, ◌-◌, ◌*◌, ◌==◌, nat_le, if◌then◌else◌, ◌&&◌, List, [], ◌∷◌, length, take, drop, Option, Some, None, ℤ, pos, neg_ℤ, codes, position}
+-- The four fields of a line of dates (docs/ARCHITECTURE.md, "Lines").
+use Rattle.std.specs.Prelude.{ℕ, ◌+◌, ◌-◌, ◌*◌, ◌==◌, nat_le, if◌then◌else◌, ◌&&◌, List, [], ◌∷◌, length, take, drop, Option, Some, None, option_and_then, ℤ, pos, neg_ℤ, codes, position}
 use Rattle.std.specs.Option.{option_map}
 use Rattle.std.specs.Str.{bytes_eq, is_utf8}
-use Rattle.resb_tree.specs.Tree.{◌>>=◌}
-use Rattle.tell.specs.declared.fields.Dialect.{Dialect}
-use Rattle.tell.specs.declared.fields.Dialect.TheVariants.{Uk, Us}
+use Rattle.interim.specs.declared.types.Dialect.{Dialect}
+use Rattle.interim.specs.declared.types.Dialect.TheVariants.{Uk, Us}
+
+-- one step of a reading that may find nothing, and what is read after it
+infixl 10 ◌>>=◌
+abbrev ◌>>=◌ : {A B : Type 0} → Option A → (A → Option B) → Option B
+found >>= next = option_and_then next found
 
 -- the name of a zone, the base in seconds, the dialect and the phrase
 pub record LineFields : Type 0 where

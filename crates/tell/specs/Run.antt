@@ -1,48 +1,121 @@
 -- How a run of the program ends, and what stands after it (docs/ARCHITECTURE.md, "Statuses").
-use Rattle.std.specs.Prelude.{◌≡◌, ℕ, ◌+◌, ◌*◌, ◌==◌, ◌%◌, nat_lt, if◌then◌else◌, ◌&&◌, List, [], ◌∷◌, length, Bool, false, codes, ⊤, Option, Some, None}
+use Rattle.std.specs.Prelude.{◌≡◌, ◌⊎◌, ℕ, ◌+◌, ◌*◌, ◌==◌, ◌%◌, nat_lt, if◌then◌else◌, List, [], ◌∷◌, length, codes, ⊤, Option, Some, None, IsSome, IfSome, option_and_then}
+use Rattle.std.specs.Option.{option_map}
 use Rattle.std.specs.Str.{bytes_eq}
 use Rattle.std.specs.Io.KnownBytes.{Appends, IsAtEnd}
+use Rattle.tongues.specs.Speech.{Speech}
+use Rattle.tongues.specs.Any.{any_speech}
+use Rattle.timeago.specs.Codes.{coded_language}
 use Rattle.zoneinfo64.specs.NamedZone.{NamedZone}
 use Rattle.zoneinfo64.specs.Bundle.{zones_of_words}
-use Rattle.tell.specs.Lines.{lines}
-use Rattle.tell.specs.Answer.{IsReport}
-use Rattle.tell.specs.declared.program.Status.{Status}
-use Rattle.tell.specs.declared.program.Status.TheVariants.{Done, Usage, Bundle, ReadFault, WriteFault, Memory, TooLong}
+use Rattle.streams.specs.Causes.{Rose}
+use Rattle.streams.specs.Lines.{lines}
+use Rattle.streams.specs.Report.{IsReport}
+use Rattle.streams.specs.Ends.{served}
+use Rattle.streams.specs.Stands.{Stands}
+use Rattle.streams.specs.declared.status.Status.{Status}
+use Rattle.streams.specs.declared.status.Status.TheVariants.{Usage, Bundle}
+use Rattle.tell.specs.ReplyTexts.{IsReply}
+use Rattle.tell.specs.Ago.{IsAgoReply}
+use Rattle.tell.specs.declared.program.Command.{Command}
+use Rattle.tell.specs.declared.program.Command.TheVariants.{At, Ago}
 
--- the words are a command: `at en` and the name of a bundle
-abbrev pub is_command : List (List ℕ) → Bool
-is_command (at ∷ lang ∷ bundle ∷ []) = bytes_eq at (codes "at") && bytes_eq lang (codes "en")
-is_command other = false
+-- ---- what was asked
+
+-- the command that words name: `at LANG` and the name of a bundle's file, or `ago LANG`, where LANG is a language's code
+abbrev pub command_of : List (List ℕ) → Option Command
+command_of (at ∷ lang ∷ bundle ∷ []) =
+    if bytes_eq at (codes "at") then option_map (λ l. At l) (coded_language lang) else None
+command_of (ago ∷ lang ∷ []) =
+    if bytes_eq ago (codes "ago") then option_map (λ l. Ago l) (coded_language lang) else None
+command_of other = None
+
+-- ---- the bundle
 
 -- words of four bytes, the low byte first
 abbrev pub words_of : List ℕ → List ℕ
 words_of (a ∷ b ∷ c ∷ d ∷ bytes) = (a + 256 * b + 65536 * c + 16777216 * d) ∷ words_of bytes
 words_of other = []
 
--- the zones of a bundle; none where it has over 4,194,304 bytes, a length that 4 does not divide, or no zone list
-unfoldable pub bundle_zones : List ℕ → Option (List NamedZone)
-bundle_zones bytes =
+-- the words of a bundle; none where it has over 4,194,304 bytes or a length that 4 does not divide
+unfoldable pub bundle_words : List ℕ → Option (List ℕ)
+bundle_words bytes =
     if nat_lt 4194304 (length bytes) then None
-    else (if length bytes % 4 == 0 then zones_of_words (words_of bytes) else None)
+    else (if length bytes % 4 == 0 then Some (words_of bytes) else None)
 
-abbrev pub planned_at : Option (List NamedZone) → List ℕ → Status
-planned_at None input = Bundle
-planned_at (Some zones) input = if nat_lt 16777216 (length input) then TooLong else Done
+-- the zones of a bundle; none also where its words give no zone list
+unfoldable pub bundle_zones : List ℕ → Option (List NamedZone)
+bundle_zones bytes = option_and_then zones_of_words (bundle_words bytes)
 
--- how a run ends in which nothing fails and memory is found
-abbrev pub planned : List (List ℕ) → List ℕ → List ℕ → Status
-planned args bundle input = if is_command args then planned_at (bundle_zones bundle) input else Usage
+-- ---- how a run ends
 
--- a run ends as planned, or with a fault, or for want of memory
-abbrev pub EndsBy : Status → Status → Type 0
-EndsBy plan ReadFault = ⊤
-EndsBy plan WriteFault = ⊤
-EndsBy plan Memory = ⊤
-EndsBy plan status = status ≡ plan
+-- a run over an input, behind a bundle that was read
+abbrev pub served_in : Option (List NamedZone) → Option (List ℕ) → Option Status
+served_in None input = Some Bundle
+served_in (Some zones) input = served input
 
--- both sources were read to their ends, and the sink gained exactly the report of the input
-pub record Reported (bundle bundle' input input' written written' : Option (List ℕ)) : Type 0 where
+-- how a command ends in which nothing fails and memory is found, where the sources that it needs tell it
+abbrev pub planned : Option Command → Option (List ℕ) → Option (List ℕ) → Option Status
+planned None bundle input = Some Usage
+planned (Some (At l)) None input = None
+planned (Some (At l)) (Some b) input = served_in (bundle_zones b) input
+planned (Some (Ago l)) bundle input = served input
+
+-- the command is `at`, and no zones are those of the bundle, where it is told
+abbrev pub RefusesBundle : Option Command → Option (List ℕ) → Type 0
+RefusesBundle (Some (At l)) bundle = IfSome bundle (λ b. bundle_zones b ≡ None)
+RefusesBundle other bundle = ⊥
+
+-- the command is one, and what it needs of the bundle is there, where that is told
+abbrev pub AcceptsBundle : Option Command → Option (List ℕ) → Type 0
+AcceptsBundle (Some (At l)) bundle = IfSome bundle (λ b. IsSome (bundle_zones b))
+AcceptsBundle (Some (Ago l)) bundle = ⊤
+AcceptsBundle None bundle = ⊥
+
+-- the faults of a source that the command reads rose: of the input, or of the bundle where the command is `at`
+abbrev pub ReadFaultRose : Option Command → (bundle bundle' input input' : ℕ) → Type 0
+ReadFaultRose (Some (At l)) bundle bundle' input input' = Rose bundle bundle' ⊎ Rose input input'
+ReadFaultRose (Some (Ago l)) bundle bundle' input input' = Rose input input'
+ReadFaultRose None bundle bundle' input input' = ⊥
+
+-- ---- what stands after it
+
+-- the reply to a line, where a bundle gave zones
+abbrev pub IsReplyWith : Speech → Option (List NamedZone) → List ℕ → List ℕ → Type 0
+IsReplyWith speech None line text = ⊥
+IsReplyWith speech (Some zones) line text = IsReply speech zones line text
+
+-- both sources were read to their ends, and the sink gained exactly the report of the input in the bundle's zones
+pub record Reported (speech : Speech) (bundle bundle' input input' written written' : Option (List ℕ)) : Type 0 where
   pub bundle_ended : IsAtEnd bundle'
   pub input_ended : IsAtEnd input'
   pub gained : (b i : List ℕ) → bundle ≡ Some b → input ≡ Some i
-      → (zones : List NamedZone) × (report : List ℕ) × (bundle_zones b ≡ Some zones) × IsReport zones (lines i) report × Appends written written' report
+      → (zones : List NamedZone) × (report : List ℕ) × (bundle_zones b ≡ Some zones)
+      × IsReport (IsReply speech zones) (lines i) report × Appends written written' report
+
+-- the input was read to its end, and the sink gained exactly its report
+pub record AgoReported (speech : Speech) (input input' written written' : Option (List ℕ)) : Type 0 where
+  pub input_ended : IsAtEnd input'
+  pub gained : (i : List ℕ) → input ≡ Some i
+      → (report : List ℕ) × IsReport (IsAgoReply speech) (lines i) report × Appends written written' report
+
+-- all was read, and the sink gained exactly the report of the command
+abbrev pub IsReported : Option Command → (bundle bundle' input input' written written' : Option (List ℕ)) → Type 0
+IsReported (Some (At l)) bundle bundle' input input' written written' =
+    Reported (any_speech l) bundle bundle' input input' written written'
+IsReported (Some (Ago l)) bundle bundle' input input' written written' =
+    AgoReported (any_speech l) input input' written written'
+IsReported None bundle bundle' input input' written written' = ⊥
+
+-- what the sink gained for the bytes that were taken from the input, after each status
+abbrev pub StandsAfter : Option Command → Option (List ℕ) → Status → (input input' written written' : Option (List ℕ)) → Type 0
+StandsAfter (Some (At l)) bundle status input input' written written' =
+    IfSome bundle (λ b. Stands (IsReplyWith (any_speech l) (bundle_zones b)) status input input' written written')
+StandsAfter (Some (Ago l)) bundle status input input' written written' =
+    Stands (IsAgoReply (any_speech l)) status input input' written written'
+StandsAfter None bundle status input input' written written' = status ≡ Usage
+
+-- the command does not touch the bundle
+abbrev pub NeedsNoBundle : Option Command → Type 0
+NeedsNoBundle (Some (At l)) = ⊥
+NeedsNoBundle other = ⊤

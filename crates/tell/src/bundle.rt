@@ -7,7 +7,7 @@ use zoneinfo64::{BinaryDeserializerError, ZoneInfo64};
 
 /// Why the bytes of a bundle gave no zones.
 #[derive(Clone, Copy, Debug, PartialEq, Eq)]
-pub enum Refusal {
+pub enum BundleError {
     Bundle,
     Memory,
 }
@@ -29,23 +29,24 @@ fn words(alloc: Global, bytes: &[u8]) -> Result<Vec<u32>, AllocError>
     Ok(words)
 }
 
-#[tactic(auto, unfolding(crate::specs::Run::bundle_zones, zoneinfo64::specs::Bundle::zones_of_words))]
-/// The zones of a bundle of at most 4,194,304 bytes.
-pub fn zones_of_bytes(alloc: Global, bytes: &[u8]) -> Result<ZoneInfo64, Refusal>
-    requires { length bytes.now ≤ 4194304 }
-    ensures zones { IfOk result (λ zones. bundle_zones bytes.now ≡ Some zones) }
-    ensures refused { IsErrOf result Refusal.Bundle → bundle_zones bytes.now ≡ None }
+#[tactic(auto, unfolding(crate::specs::Run::bundle_zones, crate::specs::Run::bundle_words, zoneinfo64::specs::Bundle::zones_of_words))]
+/// The zones of a bundle of at most 4,194,304 bytes, which are given up once their words are there.
+pub fn zones_of_bytes(alloc: Global, bytes: Vec<u8>) -> Result<ZoneInfo64, BundleError>
+    requires { vec_len bytes ≤ 4194304 }
+    ensures zones { IfOk result (λ zones. bundle_zones bytes.items ≡ Some zones) }
+    ensures refused { IsErrOf result BundleError.Bundle → bundle_zones bytes.items ≡ None }
 {
     if bytes.len() % 4 != 0 {
-        return Err(Refusal::Bundle);
+        return Err(BundleError::Bundle);
     }
-    let Ok(words) = words(alloc, bytes) else {
-        return Err(Refusal::Memory);
+    let Ok(words) = words(alloc, &bytes) else {
+        return Err(BundleError::Memory);
     };
+    drop(bytes);
     match ZoneInfo64::try_from_u32s(alloc, &words) {
         Ok(zones) => Ok(zones),
-        Err(BinaryDeserializerError::Memory) => Err(Refusal::Memory),
-        Err(BinaryDeserializerError::Tree) => Err(Refusal::Bundle),
-        Err(BinaryDeserializerError::Rules) => Err(Refusal::Bundle),
+        Err(BinaryDeserializerError::Memory) => Err(BundleError::Memory),
+        Err(BinaryDeserializerError::Tree) => Err(BundleError::Bundle),
+        Err(BinaryDeserializerError::Rules) => Err(BundleError::Bundle),
     }
 }

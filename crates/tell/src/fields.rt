@@ -1,15 +1,9 @@
 ghost use Rattle.std.specs.Prelude.{◌≡◌, ◌^◌, ◌<◌, MatchOption, IfSome};
 ghost use Rattle.tell.specs.Fields.{without_cr, cut as cut_of, number_of, base_of, dialect_of, text_fields as fields_of_text, fields_of};
-ghost use Rattle.tell.specs.SeenFields.{seen_fields};
+ghost use Rattle.tell.specs.Inside.FieldsView.{option_view};
 
+use interim::Dialect;
 use std::str::from_utf8;
-
-/// How a date with slashes is read: day first, or month first.
-#[derive(Clone, Copy, Debug, PartialEq, Eq)]
-pub enum Dialect {
-    Uk,
-    Us,
-}
 
 /// The four fields of a line, borrowed from it.
 #[derive(Clone, Copy)]
@@ -26,7 +20,7 @@ pub struct Fields<'a> {
 // In bytes, without the LF.
 const LONGEST_LINE: usize = 1024;
 
-fn without_cr(line: &[u8]) -> &[u8]
+pub fn without_cr(line: &[u8]) -> &[u8]
     ensures { result.now ≡ without_cr line.now }
 {
     let [front @ .., last] = line else {
@@ -82,7 +76,7 @@ fn base(text: &str) -> Option<i64>
 
 #[tactic(auto, unfolding(crate::specs::Fields::text_fields))]
 fn text_fields(text: &str) -> Option<Fields<'_>>
-    ensures { seen_fields result ≡ fields_of_text text.now }
+    ensures { option_view result ≡ fields_of_text text.now }
 {
     let (zone, rest) = cut(text)?;
     let (base_text, rest) = cut(rest)?;
@@ -102,7 +96,7 @@ fn text_fields(text: &str) -> Option<Fields<'_>>
 /// The line has at most 1,024 bytes, and one CR at its end is dropped. The rest is UTF-8; the base is 1 to 12 digits,
 /// perhaps behind a minus sign; the dialect is `uk` or `us`. None where the line is not so.
 pub fn split_fields(line: &[u8]) -> Option<Fields<'_>>
-    ensures { seen_fields result ≡ fields_of line.now }
+    ensures { option_view result ≡ fields_of line.now }
 {
     if line.len() > LONGEST_LINE {
         return None;

@@ -1,24 +1,22 @@
 //! Dates in English words, placed in a zone and told as a distance.
 #![tactic(auto)]
 
-mod answer;
+mod ago;
+mod below;
 mod bundle;
+mod engine;
 mod fields;
+mod find;
 pub mod laws;
-mod lexer;
-mod memory;
-mod phrase;
+mod lead;
+mod moment;
 mod program;
-mod report;
-mod sink;
-mod source;
+mod reply;
+mod teller;
 #[cfg(test)]
 mod tests;
-mod unit;
-mod whole;
-mod words;
+mod told;
 
-pub use memory::{MemSink, MemSource};
-pub use program::{Status, run};
-pub use sink::Sink;
-pub use source::{Failed, Source};
+pub use program::run;
+pub use streams::{Answer, Failed, MemSink, MemSource, Sink, Source, Status, serve};
+pub use told::{TellError, Told, tell, tell_in};

@@ -1,112 +1,114 @@
-ghost use Rattle.std.specs.Prelude.{◌≡◌, ◌⊎◌, ◌↔◌, ◌≤◌, ℕ, List, map, ◌<◌, Some, None, IsSome, IfOk, IsErrOf, IsTrue, length, not};
+ghost use Rattle.std.specs.Prelude.{◌≡◌, ◌⊎◌, ◌↔◌, map, Some, None, IfSome};
 ghost use Rattle.std.specs.String.{string_bytes};
-ghost use Rattle.tell.specs.Causes.{Rose};
-ghost use Rattle.tell.specs.Whole.{TookAtMost};
+ghost use Rattle.std.specs.Option.{option_map};
+ghost use Rattle.timeago.specs.Codes.{coded_language};
+ghost use Rattle.tongues.specs.Any.{any_speech};
+ghost use Rattle.streams.specs.Causes.{Rose};
+ghost use Rattle.streams.specs.Ends.{EndsAs, EndsBy};
+ghost use Rattle.streams.specs.Stands.{Stands};
+ghost use Rattle.streams.specs.Whole.{TookAtMost, TookMore};
+ghost use Rattle.tell.specs.Run.{command_of, planned, bundle_zones, IsReplyWith, Reported, IsReported, StandsAfter, RefusesBundle, AcceptsBundle, ReadFaultRose, NeedsNoBundle};
+ghost use Rattle.tell.specs.declared.program.Command.{Command};
+ghost use Rattle.tell.specs.declared.program.Command.TheVariants as command;
 
-use crate::bundle::{Refusal, zones_of_bytes};
-use crate::report::{Halt, answer_lines};
-use crate::whole::{Stop, read_all};
-use crate::{Sink, Source};
+use crate::ago::AgoEngine;
+use crate::bundle::{BundleError, zones_of_bytes};
+use crate::engine::AtEngine;
 use std::alloc::Global;
-
-/// How a run ended.
-#[derive(Clone, Copy, Debug, PartialEq, Eq)]
-pub enum Status {
-    /// The bundle and the input were read to their ends, and every answer was written.
-    Done,
-    /// The words are no command; nothing was read or written.
-    Usage,
-    /// The bundle was refused; the input was not read, and nothing was written.
-    Bundle,
-    /// A read of the bundle or of the input failed.
-    ReadFault,
-    /// A write of the answers failed.
-    WriteFault,
-    /// Memory could not be found.
-    Memory,
-    /// The input has more than 16,777,216 bytes.
-    TooLong,
-}
-
-impl Status {
-    ghost use Rattle.tell.specs.Codes.{code_of};
-
-    /// The exit status that stands for it: 0, or from 2 to 7.
-    pub fn code(self) -> u8
-        ensures { result ≡ code_of self }
-    {
-        match self {
-            Status::Done => 0,
-            Status::Usage => 2,
-            Status::Bundle => 3,
-            Status::ReadFault => 4,
-            Status::WriteFault => 5,
-            Status::Memory => 6,
-            Status::TooLong => 7,
-        }
-    }
-}
-
-ghost use Rattle.tell.specs.Run.{is_command, planned_at, planned, bundle_zones, EndsBy, Reported};
+use streams::{ReadError, Sink, Source, Status, read_all, serve};
+use timeago::{AnyLanguage, from_isolang};
 
 const MAX_BUNDLE: usize = 4_194_304;
 
-const MAX_INPUT: usize = 16_777_216;
+// What the words after the program's name ask for.
+#[derive(Clone, Copy)]
+enum Command {
+    /// The lines of the input name dates, which are told in the zones of the bundle.
+    At(AnyLanguage),
+    /// The lines of the input are seconds, which are told in words.
+    Ago(AnyLanguage),
+}
 
-fn is_at(args: &[String]) -> bool
-    ensures { result ≡ is_command (map string_bytes args.now) }
+fn read_at(lang: &str) -> Option<Command>
+    ensures { result ≡ option_map (λ l. command.At l) (coded_language lang.now) }
+{
+    Some(Command::At(from_isolang(lang)?))
+}
+
+fn read_ago(lang: &str) -> Option<Command>
+    ensures { result ≡ option_map (λ l. command.Ago l) (coded_language lang.now) }
+{
+    Some(Command::Ago(from_isolang(lang)?))
+}
+
+fn read_command(args: &[String]) -> Option<Command>
+    ensures { result ≡ command_of (map string_bytes args.now) }
 {
     match args {
-        [at, lang, _] => at.as_str() == "at" && lang.as_str() == "en",
-        _ => false,
+        [at, lang, _] if at.as_str() == "at" => read_at(lang.as_str()),
+        [ago, lang] if ago.as_str() == "ago" => read_ago(lang.as_str()),
+        _ => None,
     }
 }
 
-// Answers the lines of the input in the zones of the bundle.
+// Replies to the lines of the input in the zones of the bundle.
 fn at<B: Source, I: Source, O: Sink>(
     alloc: Global,
+    language: AnyLanguage,
     bundle: &mut B,
     input: &mut I,
     output: &mut O,
 ) -> Status
-    ensures done { result ≡ Status.Done → Reported (B.left bundle.old) (B.left bundle.new) (I.left input.old) (I.left input.new) (O.written output.old) (O.written output.new) }
-    ensures ends { (b i : List ℕ) → B.left bundle.old ≡ Some b → I.left input.old ≡ Some i → EndsBy (planned_at (bundle_zones b) i) result }
+    ensures done { result ≡ Status.Done → Reported (any_speech language)
+        (B.left bundle.old) (B.left bundle.new) (I.left input.old) (I.left input.new)
+        (O.written output.old) (O.written output.new) }
+    ensures stands { StandsAfter (Some (command.At language)) (B.left bundle.old) result
+        (I.left input.old) (I.left input.new) (O.written output.old) (O.written output.new) }
+    ensures untouched { result ≡ Status.Bundle
+        → (input.new ≡ input.old) × (output.new ≡ output.old) }
+    ensures ends { EndsBy
+        (planned (Some (command.At language)) (B.left bundle.old) (I.left input.old)) result }
     ensures no_usage { result ≡ Status.Usage → ⊥ }
-    ensures untouched { result ≡ Status.Bundle → (input.new ≡ input.old) × (output.new ≡ output.old) }
-    ensures read_fault { result ≡ Status.ReadFault → Rose (B.faults bundle.old) (B.faults bundle.new) ⊎ Rose (I.faults input.old) (I.faults input.new) }
-    ensures write_fault { result ≡ Status.WriteFault → Rose (O.faults output.old) (O.faults output.new) }
+    ensures refused { result ≡ Status.Bundle
+        → RefusesBundle (Some (command.At language)) (B.left bundle.old) }
+    ensures accepted { result ≡ Status.TooLong
+        → AcceptsBundle (Some (command.At language)) (B.left bundle.old) }
+    ensures too_long { result ≡ Status.TooLong → TookMore (I.left input.old) 16777216 }
+    ensures read_fault { result ≡ Status.ReadFault
+        → Rose (B.faults bundle.old) (B.faults bundle.new)
+        ⊎ Rose (I.faults input.old) (I.faults input.new) }
+    ensures write_fault { result ≡ Status.WriteFault
+        → Rose (O.faults output.old) (O.faults output.new) }
     ensures bundle_taken { TookAtMost (B.left bundle.old) (B.left bundle.new) 4194305 }
     ensures input_taken { TookAtMost (I.left input.old) (I.left input.new) 16777217 }
 {
     let bytes = match read_all(alloc, bundle, MAX_BUNDLE) {
         Ok(bytes) => bytes,
-        Err(Stop::Fault) => return Status::ReadFault,
-        Err(Stop::Memory) => return Status::Memory,
-        Err(Stop::TooLong) => return Status::Bundle,
+        Err(ReadError::Fault) => return Status::ReadFault,
+        Err(ReadError::Memory) => return Status::Memory,
+        Err(ReadError::TooLong) => return Status::Bundle,
     };
-    let zones = match zones_of_bytes(alloc, &bytes) {
+    let zones = match zones_of_bytes(alloc, bytes) {
         Ok(zones) => zones,
-        Err(Refusal::Memory) => return Status::Memory,
-        Err(Refusal::Bundle) => return Status::Bundle,
+        Err(BundleError::Memory) => return Status::Memory,
+        Err(BundleError::Bundle) => return Status::Bundle,
     };
-    let text = match read_all(alloc, input, MAX_INPUT) {
-        Ok(text) => text,
-        Err(Stop::Fault) => return Status::ReadFault,
-        Err(Stop::Memory) => return Status::Memory,
-        Err(Stop::TooLong) => return Status::TooLong,
+    let Ok(engine) = AtEngine::new(alloc, language, zones) else {
+        return Status::Memory;
     };
-    match answer_lines(alloc, &zones, &text, output) {
-        Ok(()) => Status::Done,
-        Err(Halt::Fault) => Status::WriteFault,
-        Err(Halt::Memory) => Status::Memory,
-    }
+    serve(alloc, &engine, input, output)
 }
 
-/// All that the program does: answers each line of the input in the zones of the bundle.
+/// All that the program does.
 ///
-/// `args` are the words after the program's name. It ends at the first of: words that are no command (`Usage`), a bundle
-/// that cannot be read (`ReadFault`) or is refused (`Bundle`), an input that cannot be read or has more than 16,777,216
-/// bytes (`TooLong`), a write that fails (`WriteFault`); or where memory cannot be found (`Memory`).
+/// `args` are the words after the program's name: `at LANG` and the name of a bundle's file, or `ago LANG`, where LANG is
+/// one of the eighteen codes of `timeago::from_isolang`. With `at` each line of the input is a date, which is placed in a
+/// zone of the bundle and told as a distance; with `ago` it is a number of seconds, which is told as a distance, and the
+/// bundle is not touched.
+///
+/// It ends at the first of: words that are no command (`Usage`), a bundle that cannot be read (`ReadFault`) or is refused
+/// (`Bundle`), and then as `serve` does; or where memory cannot be found (`Memory`). A bundle is refused that has over
+/// 4,194,304 bytes, a length that 4 does not divide, or no zone list.
 pub fn run<B: Source, I: Source, O: Sink>(
     alloc: Global,
     args: &[String],
@@ -114,31 +116,46 @@ pub fn run<B: Source, I: Source, O: Sink>(
     input: &mut I,
     output: &mut O,
 ) -> Status
-    // Both sources were read to their ends, and the sink gained one answer for each line, and nothing else.
-    ensures done { result ≡ Status.Done → Reported (B.left bundle.old) (B.left bundle.new) (I.left input.old) (I.left input.new) (O.written output.old) (O.written output.new) }
+    // What the command reads was read to its end, and the sink gained one answer for each line, and nothing else.
+    ensures done { result ≡ Status.Done → IsReported (command_of (map string_bytes args.now))
+        (B.left bundle.old) (B.left bundle.new) (I.left input.old) (I.left input.new)
+        (O.written output.old) (O.written output.new) }
 
-    // The refusals come exactly in their cases, and with no fault counted only `Done` or `Memory` is left.
-    ensures ends { (b i : List ℕ) → B.left bundle.old ≡ Some b → I.left input.old ≡ Some i → EndsBy (planned (map string_bytes args.now) b i) result }
-    ensures bundle { (b i : List ℕ) → B.left bundle.old ≡ Some b → I.left input.old ≡ Some i → result ≡ Status.Bundle → IsTrue (is_command (map string_bytes args.now)) × (bundle_zones b ≡ None) }
-    ensures too_long { (b i : List ℕ) → B.left bundle.old ≡ Some b → I.left input.old ≡ Some i → result ≡ Status.TooLong → IsTrue (is_command (map string_bytes args.now)) × IsSome (bundle_zones b) × (16777216 < length i) }
-    ensures complete { (b i : List ℕ) → B.left bundle.old ≡ Some b → I.left input.old ≡ Some i → IsTrue (is_command (map string_bytes args.now)) → IsSome (bundle_zones b) → length i ≤ 16777216 → EndsBy Status.Done result }
-    ensures usage { result ≡ Status.Usage ↔ IsTrue (not (is_command (map string_bytes args.now))) }
+    // What the sink gained for the bytes that were taken, after each status.
+    ensures stands { StandsAfter (command_of (map string_bytes args.now)) (B.left bundle.old)
+        result (I.left input.old) (I.left input.new) (O.written output.old) (O.written output.new) }
+    ensures usage_untouched { result ≡ Status.Usage
+        → (bundle.new ≡ bundle.old) × (input.new ≡ input.old) × (output.new ≡ output.old) }
+    ensures bundle_untouched { result ≡ Status.Bundle
+        → (input.new ≡ input.old) × (output.new ≡ output.old) }
+    ensures no_bundle { NeedsNoBundle (command_of (map string_bytes args.now))
+        → bundle.new ≡ bundle.old }
 
-    // What was left alone.
-    ensures usage_untouched { result ≡ Status.Usage → (bundle.new ≡ bundle.old) × (input.new ≡ input.old) × (output.new ≡ output.old) }
-    ensures bundle_untouched { result ≡ Status.Bundle → (input.new ≡ input.old) × (output.new ≡ output.old) }
+    // It ends as planned, or with a fault, or for want of memory.
+    ensures ends { EndsBy (planned (command_of (map string_bytes args.now))
+        (B.left bundle.old) (I.left input.old)) result }
+    ensures complete { planned (command_of (map string_bytes args.now))
+        (B.left bundle.old) (I.left input.old) ≡ Some Status.Done → EndsAs Status.Done result }
 
-    // Faults come only where they were counted.
-    ensures read_fault { result ≡ Status.ReadFault → Rose (B.faults bundle.old) (B.faults bundle.new) ⊎ Rose (I.faults input.old) (I.faults input.new) }
-    ensures write_fault { result ≡ Status.WriteFault → Rose (O.faults output.old) (O.faults output.new) }
+    // Each refusal has its cause, and a fault was counted.
+    ensures usage { result ≡ Status.Usage ↔ (command_of (map string_bytes args.now) ≡ None) }
+    ensures bundle { result ≡ Status.Bundle
+        → RefusesBundle (command_of (map string_bytes args.now)) (B.left bundle.old) }
+    ensures too_long { result ≡ Status.TooLong → TookMore (I.left input.old) 16777216
+        × AcceptsBundle (command_of (map string_bytes args.now)) (B.left bundle.old) }
+    ensures read_fault { result ≡ Status.ReadFault
+        → ReadFaultRose (command_of (map string_bytes args.now))
+        (B.faults bundle.old) (B.faults bundle.new) (I.faults input.old) (I.faults input.new) }
+    ensures write_fault { result ≡ Status.WriteFault
+        → Rose (O.faults output.old) (O.faults output.new) }
 
     // Reading stops past the limits.
     ensures bundle_taken { TookAtMost (B.left bundle.old) (B.left bundle.new) 4194305 }
     ensures input_taken { TookAtMost (I.left input.old) (I.left input.new) 16777217 }
 {
-    if is_at(args) {
-        at(alloc, bundle, input, output)
-    } else {
-        Status::Usage
+    match read_command(args) {
+        Some(Command::At(language)) => at(alloc, language, bundle, input, output),
+        Some(Command::Ago(language)) => serve(alloc, &AgoEngine::new(language), input, output),
+        None => Status::Usage,
     }
 }

@@ -1,3 +1,6 @@
+mod seconds;
+mod statuses;
+
 use crate::{MemSink, MemSource, Status, run};
 use std::alloc::{AllocError, Global};
 use std::test::Fail;
@@ -114,10 +117,13 @@ fn answers_lines(rt: HostRuntime) -> Result<(), Fail> {
             "Test/Plus2\t1521622800\tuk\t2018-03-21 11:00",
             "1521622800\t0\t7200\t-\tnow\n",
         ),
-        ("x", "! unbuilt\n"),
-        ("\n", "! unbuilt\n"),
+        ("x", "! bad line\n"),
+        ("\n", "! bad line\n"),
         ("", ""),
-        ("Test/Plus2\t1521622800\tuk 2018-03-23 20:00", "! unbuilt\n"),
+        (
+            "Test/Plus2\t1521622800\tuk 2018-03-23 20:00",
+            "! bad line\n",
+        ),
         (
             "Test/None\t1521622800\tuk\t2018-03-23 20:00",
             "! unknown zone\n",
@@ -128,7 +134,7 @@ fn answers_lines(rt: HostRuntime) -> Result<(), Fail> {
         ),
         (
             "Test/Plus2\t253402300800\tuk\t2018-03-23 20:00",
-            "! unbuilt\n",
+            "! base out of range\n",
         ),
         (
             "Test/Plus2\t-377705116800\tuk\t2018-03-23 20:00",
@@ -136,11 +142,11 @@ fn answers_lines(rt: HostRuntime) -> Result<(), Fail> {
         ),
         (
             "Test/Plus2\t-377705116801\tuk\t2018-03-23 20:00",
-            "! unbuilt\n",
+            "! base out of range\n",
         ),
         (
             "Test/Plus2\t1521622800\tuk\t2018-02-30 20:00",
-            "! unbuilt\n",
+            "! date could not be parsed from input\n",
         ),
         (
             "Test/Plus2\t1521622800\tuk\t2018-04-01 25:00",
@@ -148,13 +154,13 @@ fn answers_lines(rt: HostRuntime) -> Result<(), Fail> {
         ),
         (
             "Test/Plus2\t1521622800\tuk\t2018-03-23 20:60",
-            "! unbuilt\n",
+            "! date could not be parsed from input\n",
         ),
         (
             "Test/Plus2\t1521622800\tus\t2018-03-23 20:00:30\r\n",
             "1521828030\t0\t7200\t+\t2 days\n",
         ),
-        ("Test/Plus2\t1521622800\tuk\tfriday 8pm", "! unbuilt\n"),
+        ("Test/Plus2\t1521622800\tuk\tfriday 8pm", FIRST_ANSWER),
     ];
     for (line, answer) in rows {
         let (status, written) = ran(alloc, one_zone(alloc)?, line.as_bytes())?;
@@ -167,6 +173,13 @@ fn answers_lines(rt: HostRuntime) -> Result<(), Fail> {
 #[test]
 fn answers_each_line_once(rt: HostRuntime) -> Result<(), Fail> {
     let alloc = rt.alloc();
+    let two =
+        "Test/Plus2\t1521622800\tuk\t2018-03-23 20:00\nTest/Plus2\t1521622800\tuk\t2018-03-21 11:00";
+    let (status, written) = ran(alloc, one_zone(alloc)?, two.as_bytes())?;
+    assert_eq!(rt; status, Status::Done);
+    let answers = "1521828000\t0\t7200\t+\t2 days\n1521622800\t0\t7200\t-\tnow\n";
+    assert_eq!(rt; written.as_slice(), answers.as_bytes());
+
     let mut input = Vec::new(alloc);
     input.extend_from_slice(FIRST_LINE.as_bytes())?;
     input.extend_from_slice(b"\nx\n\n\xff\n")?;
@@ -182,7 +195,7 @@ fn answers_each_line_once(rt: HostRuntime) -> Result<(), Fail> {
     let (status, written) = ran(alloc, one_zone(alloc)?, &input)?;
     assert_eq!(rt; status, Status::Done);
     let answers =
-        "1521828000\t0\t7200\t+\t2 days\n! unbuilt\n! unbuilt\n! unbuilt\n! unbuilt\n! unbuilt\n1521828000\t0\t7200\t+\t2 days\n";
+        "1521828000\t0\t7200\t+\t2 days\n! bad line\n! bad line\n! bad line\n! bad line\n! bad line\n1521828000\t0\t7200\t+\t2 days\n";
     assert_eq!(rt; written.as_slice(), answers.as_bytes());
     Ok(())
 }
@@ -193,7 +206,7 @@ fn refuses_an_unlawful_zone(rt: HostRuntime) -> Result<(), Fail> {
     // the standard offset of the zone, 86,400 and 86,399 seconds
     let (status, written) = ran(alloc, edited(alloc, 25, 86_400, 52)?, FIRST_LINE.as_bytes())?;
     assert_eq!(rt; status, Status::Done);
-    assert_eq!(rt; written.as_slice(), b"! unbuilt\n".as_slice());
+    assert_eq!(rt; written.as_slice(), b"! unlawful zone 3\n".as_slice());
     let (status, written) = ran(alloc, edited(alloc, 25, 86_399, 52)?, FIRST_LINE.as_bytes())?;
     assert_eq!(rt; status, Status::Done);
     assert_eq!(rt;
@@ -214,16 +227,14 @@ fn refuses_other_bundles(rt: HostRuntime) -> Result<(), Fail> {
         edited(alloc, 0, 0x27da_0000, 52)?,
         edited(alloc, 0, 0x27da_00d4, 52)?,
         // the integers' count reaches past the words
-        edited(alloc, 24, 27, 52)?,
-        // the array of zones holds itself
-        edited(alloc, 30, 0x8000_0017, 52)?,
-        // the root's second key is its first
-        edited(alloc, 46, 0x0038_0020, 52)?,
-        // a key byte of 128
-        edited(alloc, 14, 0x656e_6f80, 52)?,
+        edited(alloc, 24, 28, 52)?,
         // names that are no array, and a zone that is an integer
         edited(alloc, 49, 0x7000_0000, 52)?,
         edited(alloc, 30, 0x7000_0000, 52)?,
+        // a key byte of 128, two equal keys, and an array that holds itself, each under a key that is not looked up
+        further(alloc, 0x0080_0073, false, 0x7000_0000)?,
+        further(alloc, 0x0000_0073, true, 0x7000_0000)?,
+        further(alloc, 0x0000_0073, false, 0x8000_0027)?,
         heavy(alloc, 126, 2)?,
         long(alloc, 1_048_577)?,
     ];
@@ -284,6 +295,36 @@ fn heavy(alloc: Global, texts: u8, integers: u8) -> Result<Vec<u8>, AllocError> 
     bytes_of(alloc, &words)
 }
 
+/// The bundle of one zone with one or two keys besides, at the bytes 70 and 71 of its body, whose value is an array of one
+/// item. The key bytes stand in a word behind the last letter of another key.
+fn further(alloc: Global, key_word: u32, two: bool, item: u32) -> Result<Vec<u8>, AllocError> {
+    let (end, table): (u32, &[u32]) = if two {
+        (51, &[0x0020_0006, 0x0038_0032, 0x0046_003e, 0x0000_0047])
+    } else {
+        (49, &[0x0020_0005, 0x0038_0032, 0x0046_003e])
+    };
+    let mut words = Vec::new(alloc);
+    for (i, word) in ONE_ZONE.iter().enumerate() {
+        // the root item, the ends of the resources and of the bundle, and the keys
+        match i {
+            6 => words.push(0x2000_0029)?,
+            9 | 10 => words.push(end)?,
+            23 => words.push(key_word)?,
+            45.. => {}
+            _ => words.push(*word)?,
+        }
+    }
+    words.push(1)?;
+    words.push(item)?;
+    words.extend_from_slice(table)?;
+    words.extend_from_slice(&[0x8000_0017, 0x8000_0020, 0x2000_0000, 0x8000_0025])?;
+    words.push(0x8000_0027)?;
+    if two {
+        words.push(0x8000_0027)?;
+    }
+    bytes_of(alloc, &words)
+}
+
 /// The bundle of one zone with zeros behind it, so many words in all.
 fn long(alloc: Global, len: usize) -> Result<Vec<u8>, AllocError> {
     let mut bytes = one_zone(alloc)?;
@@ -296,7 +337,13 @@ fn long(alloc: Global, len: usize) -> Result<Vec<u8>, AllocError> {
 #[test]
 fn accepts_bundles_at_the_limits(rt: HostRuntime) -> Result<(), Fail> {
     let alloc = rt.alloc();
-    for bundle in [heavy(alloc, 121, 0)?, long(alloc, 1_048_576)?] {
+    let bundles = [
+        heavy(alloc, 121, 0)?,
+        long(alloc, 1_048_576)?,
+        further(alloc, 0x0000_0073, false, 0x7000_0000)?,
+        further(alloc, 0x0041_0073, true, 0x7000_0000)?,
+    ];
+    for bundle in bundles {
         let (status, written) = ran(alloc, bundle, FIRST_LINE.as_bytes())?;
         assert_eq!(rt; status, Status::Done);
         assert_eq!(rt; written.as_slice(), FIRST_ANSWER.as_bytes());
@@ -305,80 +352,16 @@ fn accepts_bundles_at_the_limits(rt: HostRuntime) -> Result<(), Fail> {
 }
 
 #[test]
-fn tells_words_that_are_no_command(rt: HostRuntime) -> Result<(), Fail> {
+fn reads_lines_of_1024_bytes(rt: HostRuntime) -> Result<(), Fail> {
     let alloc = rt.alloc();
-    let commands = [
-        words(alloc, &[])?,
-        words(alloc, &["at"])?,
-        words(alloc, &["at", "en"])?,
-        words(alloc, &["at", "en", "F", "G"])?,
-        words(alloc, &["at", "eu", "F"])?,
-        words(alloc, &["ago", "en", "F"])?,
-        words(alloc, &["AT", "en", "F"])?,
-    ];
-    for args in commands {
-        let mut bundle = MemSource::new(one_zone(alloc)?, Vec::new(alloc));
-        let mut input = MemSource::new(Vec::from_slice(alloc, b"x")?, Vec::new(alloc));
-        let mut output = MemSink::new(alloc, 100, Vec::new(alloc))?;
-        let status = run(alloc, &args, &mut bundle, &mut input, &mut output);
-        assert_eq!(rt; status, Status::Usage);
-        assert_eq!(rt; output.bytes().len(), 0);
-    }
-    Ok(())
-}
-
-#[test]
-fn tells_faults(rt: HostRuntime) -> Result<(), Fail> {
-    let alloc = rt.alloc();
-    let args = words(alloc, &["at", "en", "F"])?;
-    // which calls of the bundle, the input and the sink fail, the sink's room, and how the run ends
-    let rows: [(&[u64], &[u64], &[u64], usize, Status, &str); 6] = [
-        (&[1], &[], &[], 100, Status::ReadFault, ""),
-        (&[2], &[], &[], 100, Status::ReadFault, ""),
-        (&[], &[2], &[], 100, Status::ReadFault, ""),
-        (&[], &[], &[1], 100, Status::WriteFault, ""),
-        (&[], &[], &[], 3, Status::WriteFault, "152"),
-        (&[5], &[5], &[5], 100, Status::Done, FIRST_ANSWER),
-    ];
-    for (of_bundle, of_input, of_output, room, end, text) in rows {
-        let mut bundle = MemSource::new(one_zone(alloc)?, Vec::from_slice(alloc, of_bundle)?);
-        let line = Vec::from_slice(alloc, FIRST_LINE.as_bytes())?;
-        let mut input = MemSource::new(line, Vec::from_slice(alloc, of_input)?);
-        let mut output = MemSink::new(alloc, room, Vec::from_slice(alloc, of_output)?)?;
-        let status = run(alloc, &args, &mut bundle, &mut input, &mut output);
-        assert_eq!(rt; status, end);
-        assert_eq!(rt; output.bytes(), text.as_bytes());
-    }
-    Ok(())
-}
-
-#[test]
-fn reads_sixteen_megabytes(rt: HostRuntime) -> Result<(), Fail> {
-    let alloc = rt.alloc();
-    let mut input = vec![in alloc; b'x'; 16_777_216]?;
-    let (status, written) = ran(alloc, one_zone(alloc)?, &input)?;
-    assert_eq!(rt; status, Status::Done);
-    assert_eq!(rt; written.as_slice(), b"! unbuilt\n".as_slice());
-    input.push(b'x')?;
-    let (status, written) = ran(alloc, one_zone(alloc)?, &input)?;
-    assert_eq!(rt; status, Status::TooLong);
-    assert_eq!(rt; written.len(), 0);
-    Ok(())
-}
-
-#[test]
-fn has_a_code_for_each_status(rt: HostRuntime) -> Result<(), Fail> {
-    let rows = [
-        (Status::Done, 0),
-        (Status::Usage, 2),
-        (Status::Bundle, 3),
-        (Status::ReadFault, 4),
-        (Status::WriteFault, 5),
-        (Status::Memory, 6),
-        (Status::TooLong, 7),
-    ];
-    for (status, code) in rows {
-        assert_eq!(rt; status.code(), code);
-    }
+    let mut line = [b' '; 1025];
+    line[..41].copy_from_slice(FIRST_LINE.as_bytes());
+    let (_, written) = ran(alloc, one_zone(alloc)?, &line[..1024])?;
+    assert_eq!(rt; written.as_slice(), FIRST_ANSWER.as_bytes());
+    let (_, written) = ran(alloc, one_zone(alloc)?, &line)?;
+    assert_eq!(rt; written.as_slice(), b"! bad line\n".as_slice());
+    line[1000] = 0xff;
+    let (_, written) = ran(alloc, one_zone(alloc)?, &line[..1024])?;
+    assert_eq!(rt; written.as_slice(), b"! bad line\n".as_slice());
     Ok(())
 }

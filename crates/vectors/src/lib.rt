@@ -1,9 +1,19 @@
 //! Sample bundles, and tests that go through several crates.
 #![tactic(auto)]
 
+#[cfg(test)]
+mod lines_tests;
+#[cfg(test)]
+mod runs;
 mod samples;
+#[cfg(test)]
+mod statuses_tests;
+#[cfg(test)]
+mod tell_tests;
 #[cfg(test)]
 mod tests;
 mod trees;
+#[cfg(test)]
+mod zones_tests;
 
-pub use samples::{aliased, one_zone, three_zones, unlawful_zones};
+pub use samples::{aliased, changed_zone, one_zone, table_zone, three_zones, unlawful_zones};

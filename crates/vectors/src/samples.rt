@@ -19,16 +19,19 @@ pub fn one_zone(alloc: Global) -> Result<Resource, AllocError> {
     )
 }
 
-/// Los Angeles since 2007: standard time, daylight time of one hour more, and the rule `US` from 2008 on.
-fn los_angeles(alloc: Global) -> Result<Resource, AllocError> {
+/// Los Angeles since 2007: standard time, daylight time of one hour more, and the rule `US` from a year on. The map tells which
+/// of the two the transitions of 2007 bring: 1 and 0.
+fn los_angeles(alloc: Global, year: i32, map: &[u8]) -> Result<Resource, AllocError>
+    requires { negsuc 134217727 ≤ℤ year × year ≤ℤ pos 134217727 }
+{
     let mut zone = Entries::new(alloc);
     zone.add(
         "typeOffsets",
         integers(alloc, &[-28_800, 0, -28_800, 3_600])?,
     )?;
     zone.add("trans", integers(alloc, &[1_173_607_200, 1_194_166_800])?)?;
-    zone.add("typeMap", bytes(alloc, &[1, 0])?)?;
-    add_rule(alloc, &mut zone, "US", -28_800, 2008)?;
+    zone.add("typeMap", bytes(alloc, map)?)?;
+    add_rule(alloc, &mut zone, "US", -28_800, year)?;
     Ok(zone.into_table())
 }
 
@@ -59,7 +62,7 @@ fn three_regions(alloc: Global) -> Result<Vec<Resource>, AllocError> {
 /// `America/Los_Angeles`, `Test/Plus2`, and `US/Pacific` as an alias of the zone at a place.
 pub fn aliased(alloc: Global, place: u16) -> Result<Resource, AllocError> {
     let mut zones = Vec::new(alloc);
-    zones.push(los_angeles(alloc)?)?;
+    zones.push(los_angeles(alloc, 2008, &[1, 0])?)?;
     zones.push(fixed_zone(alloc, 7200)?)?;
     zones.push(integer(i32::from(place)))?;
     root(
@@ -74,6 +77,34 @@ pub fn aliased(alloc: Global, place: u16) -> Result<Resource, AllocError> {
 /// `America/Los_Angeles`, `Test/Plus2`, and `US/Pacific` as an alias of the first.
 pub fn three_zones(alloc: Global) -> Result<Resource, AllocError> {
     aliased(alloc, 0)
+}
+
+/// `America/Los_Angeles` alone, with this first year of its rule and this map.
+pub fn changed_zone(alloc: Global, year: i32, map: &[u8]) -> Result<Resource, AllocError>
+    requires { negsuc 134217727 ≤ℤ year × year ≤ℤ pos 134217727 }
+{
+    let zones = vec![in alloc; los_angeles(alloc, year, map)?]?;
+    let names = vec![in alloc; text(alloc, "America/Los_Angeles")?]?;
+    let regions = vec![in alloc; text(alloc, "US")?]?;
+    root(alloc, zones, names, us_rules(alloc)?, regions)
+}
+
+/// `Test/Table`: at Greenwich, and an hour more from 2018-03-25 01:00 to 2018-10-28 02:00, by the wall.
+pub fn table_zone(alloc: Global) -> Result<Resource, AllocError> {
+    let mut zone = Entries::new(alloc);
+    zone.add("typeOffsets", integers(alloc, &[0, 0, 0, 3_600])?)?;
+    zone.add("trans", integers(alloc, &[1_521_939_600, 1_540_688_400])?)?;
+    zone.add("typeMap", bytes(alloc, &[1, 0])?)?;
+    let zones = vec![in alloc; zone.into_table()]?;
+    let names = vec![in alloc; text(alloc, "Test/Table")?]?;
+    let regions = vec![in alloc; text(alloc, "001")?]?;
+    root(
+        alloc,
+        zones,
+        names,
+        Entries::new(alloc).into_table(),
+        regions,
+    )
 }
 
 /// A zone of one type offset with a rule from 2008 on.

@@ -1,79 +1,19 @@
+use crate::runs::{ran_over, written};
 use crate::trees::{Entries, fixed_zone, root, text};
-use crate::{aliased, one_zone, three_zones, unlawful_zones};
+use crate::{aliased, one_zone, three_zones};
 use resb::{Key, ResbError, Resource, read, write};
 use sqlite_items::Items;
-use std::alloc::{AllocError, Global};
 use std::test::Fail;
-use tell::{MemSink, MemSource, Status, run};
+use tell::Status;
 use zoneinfo64::{BinaryDeserializerError, Region, ZoneInfo64};
-
-/// The bytes of words, low ones first.
-fn bytes_of(alloc: Global, words: &[u32]) -> Result<Vec<u8>, AllocError> {
-    let mut bytes = Vec::new(alloc);
-    for word in words {
-        bytes.extend_from_slice(&word.to_le_bytes())?;
-    }
-    Ok(bytes)
-}
-
-/// A run of `at en` over bytes: how it ended, and what was written.
-fn ran(alloc: Global, bundle: Vec<u8>, input: &[u8]) -> Result<(Status, Vec<u8>), AllocError> {
-    let mut args = Vec::new(alloc);
-    for word in ["at", "en", "F"] {
-        args.push(String::from_str(alloc, word)?)?;
-    }
-    let mut bundle = MemSource::new(bundle, Vec::new(alloc));
-    let mut input = MemSource::new(Vec::from_slice(alloc, input)?, Vec::new(alloc));
-    let mut output = MemSink::new(alloc, 10_000, Vec::new(alloc))?;
-    let status = run(alloc, &args, &mut bundle, &mut input, &mut output);
-    Ok((status, Vec::from_slice(alloc, output.bytes())?))
-}
-
-/// The bytes of a tree, or none where it cannot be written.
-fn written(alloc: Global, tree: &Resource) -> Result<Vec<u8>, Fail> {
-    let words = write(alloc, tree).ok().ok_or("the tree is written")?;
-    Ok(bytes_of(alloc, &words)?)
-}
-
-#[test]
-fn answers_lines_over_three_zones(rt: HostRuntime) -> Result<(), Fail> {
-    let alloc = rt.alloc();
-    let bundle = written(alloc, &three_zones(alloc)?)?;
-    let rows = [
-        (
-            "Test/Plus2\t1521622800\tuk\t2018-03-23 20:00",
-            "1521828000\t0\t7200\t+\t2 days\n",
-        ),
-        (
-            "Test/Plus2\t1521622800\tuk\t2018-03-21 11:00",
-            "1521622800\t0\t7200\t-\tnow\n",
-        ),
-        ("Test/None\t1521622800\tuk\tnow", "! unknown zone\n"),
-        (
-            "America/Los_Angeles\t1521622800\tuk\t2018-03-23 20:00",
-            "! unbuilt\n",
-        ),
-        (
-            "US/Pacific\t1521622800\tuk\t2018-03-23 20:00",
-            "! unbuilt\n",
-        ),
-        ("x", "! unbuilt\n"),
-        ("", ""),
-    ];
-    for (line, answer) in rows {
-        let (status, text) = ran(alloc, bundle.clone()?, line.as_bytes())?;
-        assert_eq!(rt; status, Status::Done);
-        assert_eq!(rt; text.as_slice(), answer.as_bytes(), "{line}");
-    }
-    Ok(())
-}
 
 #[test]
 fn answers_an_alias_as_its_zone(rt: HostRuntime) -> Result<(), Fail> {
     let alloc = rt.alloc();
     let bundle = written(alloc, &aliased(alloc, 1)?)?;
-    let (status, text) = ran(
+    let (status, text) = ran_over(
         alloc,
+        &["at", "en", "F"],
         bundle,
         b"US/Pacific\t1521622800\tuk\t2018-03-23 20:00",
     )?;
@@ -91,20 +31,10 @@ fn refuses_aliases_of_no_zone(rt: HostRuntime) -> Result<(), Fail> {
     // of itself, and past the zones
     for place in [2, 3] {
         let bundle = written(alloc, &aliased(alloc, place)?)?;
-        let (status, text) = ran(alloc, bundle, b"x")?;
+        let (status, text) = ran_over(alloc, &["at", "en", "F"], bundle, b"x")?;
         assert_eq!(rt; status, Status::Bundle);
         assert_eq!(rt; text.len(), 0);
     }
-    Ok(())
-}
-
-#[test]
-fn accepts_unlawful_zones(rt: HostRuntime) -> Result<(), Fail> {
-    let alloc = rt.alloc();
-    let bundle = written(alloc, &unlawful_zones(alloc)?)?;
-    let (status, text) = ran(alloc, bundle, b"Bad/Four\t1521622800\tuk\t2018-03-23 20:00")?;
-    assert_eq!(rt; status, Status::Done);
-    assert_eq!(rt; text.as_slice(), b"! unbuilt\n".as_slice());
     Ok(())
 }
 
@@ -115,7 +45,7 @@ fn refuses_cut_words(rt: HostRuntime) -> Result<(), Fail> {
     for _ in 0..4 {
         let _ = bundle.pop();
     }
-    let (status, text) = ran(alloc, bundle, b"x")?;
+    let (status, text) = ran_over(alloc, &["at", "en", "F"], bundle, b"x")?;
     assert_eq!(rt; status, Status::Bundle);
     assert_eq!(rt; text.len(), 0);
     Ok(())
@@ -162,7 +92,6 @@ fn reads_one_zone(rt: HostRuntime) -> Result<(), Fail> {
         .ok_or("one zone is read")?;
     let zone = zones.get("Test/Plus2").ok_or("the zone is found")?;
     assert_eq!(rt; zone.for_timestamp(0).offset.seconds(), 7200);
-    assert!(rt; zone.fixed());
     assert!(rt; zones.get("Test/Plus").is_none());
     Ok(())
 }

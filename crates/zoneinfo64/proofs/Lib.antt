@@ -1,7 +1,5 @@
-pub mod OneOffset
+pub mod CheckedPlaces
 pub mod Names
-pub mod Entries
-pub mod Places
 pub mod TextOrder
 pub mod NameOrder
 pub mod Fronts
@@ -14,7 +12,10 @@ pub mod Bundles
 pub mod RuleKeys
 pub mod Tables
 pub mod Wides
-pub mod Dates
+pub mod RuleWords
 pub mod Resolved
 pub mod Units
 pub mod ZoneReads
+pub mod ShownOnce
+pub mod ZoneCivil
+pub mod OffsetExamples

@@ -14,7 +14,7 @@ use Rattle.std.specs.Str.{bytes_eq}
 use Rattle.std.specs.String.{string_bytes}
 use Rattle.std.proofs.lemmas.List.Elements.{All-head, All-tail}
 use Rattle.zoneinfo64.specs.declared.zone.Named.{Named}
-use Rattle.zoneinfo64.specs.Zone.{PlainZone}
+use Rattle.timeline.specs.Zone.{PlainZone}
 use Rattle.zoneinfo64.specs.Bundle.{rises, is_resolved, all_resolved}
 use Rattle.zoneinfo64.specs.NamedZone.{NamedZone, Place, IsZone, IsAlias, name_text, resolved, resolved_in, entry_named, named}
 use Rattle.zoneinfo64.specs.ZoneList.{AreEntries, HasText, named_of, zones_of}

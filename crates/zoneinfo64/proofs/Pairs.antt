@@ -2,7 +2,9 @@
 use Rattle.std.proofs.Common.{◌≡◌, ℕ, ◌-◌, ◌≤◌, List, [], ◌∷◌, ◌++◌, length, take, drop, get_or, Option, Some, ℤ, ◌+ℤ◌, Bool, true, false, cond, refl, sym, ◌∙◌, arith}
 use Rattle.std.proofs.lemmas.Bool.{and_parts, and_from}
 use Rattle.std.proofs.lemmas.List.{take_all}
-use Rattle.zoneinfo64.specs.Bundle.{as_i32, fits_i32, sums_fit}
+use Rattle.timeline.specs.Zone.{fits_i32}
+use Rattle.timeline.specs.Table.{sums_fit}
+use Rattle.zoneinfo64.specs.Bundle.{as_i32}
 use Rattle.zoneinfo64.specs.Steps.{pair_of, offset_steps}
 use Rattle.zoneinfo64.specs.Steps.{with_front}
 use Rattle.zoneinfo64.proofs.Fronts.{front_grows}

@@ -3,7 +3,7 @@ use Rattle.std.proofs.Common.{◌≡◌, ℕ, List, Option, Some, None, Err, ref
 use Rattle.resb_tree.specs.declared.resource.Resource.{Resource}
 use Rattle.zoneinfo64.specs.declared.error.BinaryDeserializerError.{BinaryDeserializerError}
 use Rattle.zoneinfo64.specs.declared.error.BinaryDeserializerError.TheVariants as errors
-use Rattle.zoneinfo64.specs.Zone.{RawRule}
+use Rattle.timeline.specs.Zone.{RawRule}
 use Rattle.zoneinfo64.specs.Bundle.{rules_of}
 use Rattle.zoneinfo64.specs.Steps.{Reads, ReadsRules, Leaves, array_in, table_in, root_steps}
 

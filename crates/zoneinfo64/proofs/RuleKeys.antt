@@ -1,5 +1,5 @@
 -- Rules by their keys: what a map finds after one more rule was put in.
-use Rattle.std.proofs.Common.{◌≡◌, ℕ, zero, suc, ◌-◌, ◌<◌, ◌≤◌, Bool, true, false, cond, List, [], ◌∷◌, length, drop, get_or, Option, Some, None, option_map, Vec, Err, refl, sym, ap, ◌∙◌, drop-cons, arith}
+use Rattle.std.proofs.Common.{◌≡◌, ℕ, zero, suc, ◌-◌, ◌<◌, ◌≤◌, Bool, true, false, cond, List, [], ◌∷◌, length, drop, get_or, Option, Some, None, Vec, Err, refl, sym, ap, ◌∙◌, drop-cons, arith}
 use Rattle.std.specs.declared.alloc.Global.{Global}
 use Rattle.std.specs.Ordering.{nat_cmp, is_eq, ordering_reverse}
 use Rattle.std.specs.declared.cmp.Ordering.{Ordering}
@@ -14,10 +14,9 @@ use Rattle.resb_tree.specs.Fields.{integers_in}
 use Rattle.resb_tree.specs.declared.resource.Resource.{Resource}
 use Rattle.zoneinfo64.specs.declared.error.BinaryDeserializerError.{BinaryDeserializerError}
 use Rattle.zoneinfo64.specs.declared.error.BinaryDeserializerError.TheVariants as errors
-use Rattle.zoneinfo64.specs.declared.rule.RuleDates.{RuleDates}
-use Rattle.zoneinfo64.specs.Zone.{RawRule}
+use Rattle.timeline.specs.Zone.{RawRule}
 use Rattle.zoneinfo64.specs.Bundle.{raw_rule, rules_of, rule_named}
-use Rattle.zoneinfo64.specs.RuleView.{raw_of, rule_for}
+use Rattle.zoneinfo64.specs.RuleView.{rule_for}
 use Rattle.zoneinfo64.specs.Steps.{Reads, ReadsRules, HasRules, rule_in}
 
 abbrev Key : Type 0
@@ -29,7 +28,7 @@ order = slice_cmp nat_cmp
 abbrev keys_cmp : Key → Key → Ordering
 keys_cmp x y = order x.items y.items
 
-abbrev look : List ℕ → List (Key × RuleDates) → Option RuleDates
+abbrev look : List ℕ → List (Key × RawRule) → Option RawRule
 look text es = lookup (λ (k : Key). is_eq (order text k.items)) es
 
 reversed : (o : Ordering) → is_eq (ordering_reverse o) ≡ is_eq o
@@ -50,7 +49,7 @@ apart text key other greater same =
     let less : order text key ≡ Less = nat_list_cmp_total.congr text other key equal ∙ back in
     ap is_eq less
 
-look_put : (text : List ℕ) (key : Key) (d : RuleDates) (es : List (Key × RuleDates))
+look_put : (text : List ℕ) (key : Key) (d : RawRule) (es : List (Key × RawRule))
     → look text (insert_entry keys_cmp es key d) ≡ cond (is_eq (order text key.items)) (Some d) (look text es)
 look_put text key d [] = refl
 look_put text key d (e ∷ es) = by (order key.items e.0.items) refl (look_put text key d es)
@@ -73,10 +72,6 @@ look_put text key d (e ∷ es) = by (order key.items e.0.items) refl (look_put t
         rw (is, alike) (second (is_eq (order text e.0.items)) refl)
     by Greater is rest = rw is (first (is_eq (order text e.0.items)) refl is rest)
 
-either : (b : Bool) (d : RuleDates) (o : Option RuleDates) → option_map raw_of (cond b (Some d) o) ≡ cond b (Some (raw_of d)) (option_map raw_of o)
-either true d o = refl
-either false d o = refl
-
 key_is : (text key : List ℕ) → is_eq (order text key) ≡ bytes_eq key text
 key_is text key = sym (texts_ties key text ∙ ap is_eq (nat_list_cmp_total.antisymm key text) ∙ reversed _)
 
@@ -87,21 +82,21 @@ one_more None others key raw list read rest = cc
 one_more (Some ws) others key raw list read rest = rw (read, rest) refl
 
 -- a rule is put before those that follow it
-pub rule_put : (m n : BTreeMap Key RuleDates) (key : Key) (d : RuleDates) (e : List ℕ × Resource) (rest : List (List ℕ × Resource))
-    → n.entries ≡ insert_entry keys_cmp m.entries key d → key.items ≡ e.0 → rule_in e.1 ≡ Some (raw_of d) → HasRules m (rules_of rest) → HasRules n (rules_of (e ∷ rest))
+pub rule_put : (m n : BTreeMap Key RawRule) (key : Key) (d : RawRule) (e : List ℕ × Resource) (rest : List (List ℕ × Resource))
+    → n.entries ≡ insert_entry keys_cmp m.entries key d → key.items ≡ e.0 → rule_in e.1 ≡ Some d → HasRules m (rules_of rest) → HasRules n (rules_of (e ∷ rest))
 unfolding rule_in
 rule_put m n key d e rest put same read has = record {
-  list = (e.0, raw_of d) ∷ has.list;
-  whole = one_more (integers_in e.1) (rules_of rest) e.0 (raw_of d) has.list read has.whole;
+  list = (e.0, d) ∷ has.list;
+  whole = one_more (integers_in e.1) (rules_of rest) e.0 d has.list read has.whole;
   each = λ text. each text;
 }
   where
-    each : (text : List ℕ) → rule_for n text ≡ rule_named text ((e.0, raw_of d) ∷ has.list)
+    each : (text : List ℕ) → rule_for n text ≡ rule_named text ((e.0, d) ∷ has.list)
     each text =
         let looked : look text n.entries ≡ cond (is_eq (order text key.items)) (Some d) (look text m.entries) = ap (look text) put ∙ look_put text key d m.entries in
-        let old : option_map raw_of (look text m.entries) ≡ rule_named text has.list = has.each text in
+        let old : look text m.entries ≡ rule_named text has.list = has.each text in
         let tie : is_eq (order text key.items) ≡ bytes_eq e.0 text = key_is text key.items ∙ ap (λ k. bytes_eq k text) same in
-        ap (option_map raw_of) looked ∙ either (is_eq (order text key.items)) d (look text m.entries) ∙ rw (old, tie) refl
+        looked ∙ rw (old, tie) refl
 
 -- a rule is broken
 pub rule_broken : (e : List ℕ × Resource) (rest : List (List ℕ × Resource)) → rule_in e.1 ≡ None → rules_of (e ∷ rest) ≡ None
@@ -139,7 +134,7 @@ one_before entries at e positive most is =
 
 -- a rule that is broken breaks all
 pub rules_broken : (error : BinaryDeserializerError) (entries : List (List ℕ × Resource)) (at : ℕ) (e : List ℕ × Resource) → 0 < at → at ≤ length entries → e ≡ get_or entries (at - 1) e
-    → Reads raw_of (Err error) (rule_in e.1) → ReadsRules (Err error) (rules_of entries)
+    → Reads (λ r. r) (Err error) (rule_in e.1) → ReadsRules (Err error) (rules_of entries)
 rules_broken errors.Memory entries at e positive most is read = read
 rules_broken errors.Rules entries at e positive most is read =
     let broken : rules_of (drop (at - 1) entries) ≡ None = rw (one_before entries at e positive most is) (rule_broken e (drop at entries) read) in

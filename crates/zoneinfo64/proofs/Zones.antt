@@ -6,7 +6,7 @@ use Rattle.zoneinfo64.specs.declared.error.BinaryDeserializerError.TheVariants a
 use Rattle.resb_tree.specs.Tree.{◌>>=◌}
 use Rattle.resb_tree.specs.declared.resource.Resource.{Resource}
 use Rattle.zoneinfo64.specs.declared.zone.Named.{Named}
-use Rattle.zoneinfo64.specs.Zone.{RawRule}
+use Rattle.timeline.specs.Zone.{RawRule}
 use Rattle.zoneinfo64.specs.NamedZone.{NamedZone}
 use Rattle.zoneinfo64.specs.Steps.{Reads, named_steps, list_steps}
 use Rattle.zoneinfo64.specs.ZoneList.{named_of, zones_of}

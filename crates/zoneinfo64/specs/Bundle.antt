@@ -8,9 +8,10 @@ use Rattle.resb_tree.specs.Tree.{◌>>=◌, when}
 use Rattle.resb_tree.specs.Header.{tree_of}
 use Rattle.resb_tree.specs.Fields.{field_in, text_in, bytes_in, integers_in, items_in, entries_in, index_in, signed_in}
 use Rattle.resb_tree.specs.declared.resource.Resource.{Resource}
-use Rattle.zoneinfo64.specs.declared.offset.Offset.{Offset}
-use Rattle.zoneinfo64.specs.declared.offset.Transition.{Transition}
-use Rattle.zoneinfo64.specs.Zone.{DateRule, RawRule, PlainRule, PlainZone}
+use Rattle.timeline.specs.declared.offset.Offset.{Offset}
+use Rattle.timeline.specs.declared.offset.Transition.{Transition}
+use Rattle.timeline.specs.Table.{pair_offset, transition_to, sums_fit}
+use Rattle.timeline.specs.Zone.{DateRule, RawRule, PlainRule, PlainZone, fits_i32, plain_rule}
 use Rattle.zoneinfo64.specs.NamedZone.{Place, IsZone, IsAlias, NamedZone, name_text, zone_at}
 
 -- ---- numbers
@@ -18,9 +19,6 @@ use Rattle.zoneinfo64.specs.NamedZone.{Place, IsZone, IsAlias, NamedZone, name_t
 -- 32 bits with their sign
 abbrev pub as_i32 : ℕ → ℤ
 as_i32 n = if nat_lt n 2147483648 then pos n else pos n -ℤ pos 4294967296
-
-abbrev pub fits_i32 : ℤ → Bool
-fits_i32 z = int_le (negsuc 2147483647) z && int_le z (pos 2147483647)
 
 -- pairs of words, as signed numbers; an odd number of words has none
 abbrev pub pairs_of : List ℕ → Option (List (ℤ × ℤ))
@@ -87,10 +85,6 @@ abbrev pub rule_named : List ℕ → List (List ℕ × RawRule) → Option RawRu
 rule_named text [] = None
 rule_named text (e ∷ es) = if bytes_eq e.0 text then Some e.1 else rule_named text es
 
-abbrev pub plain_rule : RawRule → ℤ → ℤ → PlainRule
-plain_rule rule raw year =
-    record { start = rule.start; end = rule.end; extra = rule.extra; raw = raw; first_year = year }
-
 -- the rule of a zone from its three fields: all of them, or none
 unfoldable pub final_rule : List (List ℕ × RawRule) → Option Resource → Option Resource → Option Resource → Option (Option PlainRule)
 final_rule rules None None None = Some None
@@ -104,14 +98,6 @@ final_rule rules key raw year = None
 
 -- ---- zones
 
--- the offset of a pair: standard offset plus extra, which applies where it is above 0
-abbrev pub pair_offset : ℤ × ℤ → Offset
-pair_offset p = record { offset = p.0 +ℤ p.1; rule_applies = int_lt (pos 0) p.1 }
-
-abbrev pub sums_fit : List (ℤ × ℤ) → Bool
-sums_fit [] = true
-sums_fit (p ∷ ps) = fits_i32 (p.0 +ℤ p.1) && sums_fit ps
-
 -- the pairs of these words, each with a sum of 32 bits
 abbrev pub offset_pairs : List ℕ → Option (List (ℤ × ℤ))
 offset_pairs words = pairs_of words >>= λ pairs. when (sums_fit pairs) pairs
@@ -122,7 +108,7 @@ table_of pairs [] [] = Some []
 table_of pairs (second ∷ seconds) (n ∷ numbers) = do
   pair ← slice_get pairs n
   others ← table_of pairs seconds numbers
-  Some (record { since = second; offset = pair.0 +ℤ pair.1; rule_applies = int_lt (pos 0) pair.1 } ∷ others)
+  Some (transition_to pair second ∷ others)
 table_of pairs seconds numbers = None
 
 abbrev pub first_of : {A : Type 0} → List A → Option A

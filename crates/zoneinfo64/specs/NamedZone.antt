@@ -3,7 +3,7 @@ use Rattle.std.specs.Prelude.{ℕ, List, slice_get, Option, Some, None, encode_u
 use Rattle.std.specs.Char.Utf16.{utf16_lossy_chars}
 use Rattle.std.specs.Str.{bytes_eq}
 use Rattle.std.specs.List.{find}
-use Rattle.zoneinfo64.specs.Zone.{PlainZone}
+use Rattle.timeline.specs.Zone.{PlainZone}
 
 -- a zone, or the place of one
 pub data Place : Type 0 where

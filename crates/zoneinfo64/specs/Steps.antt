@@ -1,5 +1,5 @@
 -- How a bundle is read, step by step.
-use Rattle.std.specs.Prelude.{ℕ, ◌==◌, nat_le, nat_lt, Bool, ◌&&◌, if◌then◌else◌, List, [], ◌∷◌, ◌++◌, length, map, Option, Some, None, Result, Ok, Err, false, ℤ, pos, ◌+ℤ◌, ◌*ℤ◌, int_lt, codes, ◌≡◌}
+use Rattle.std.specs.Prelude.{ℕ, ◌==◌, nat_le, nat_lt, Bool, ◌&&◌, if◌then◌else◌, List, [], ◌∷◌, ◌++◌, ◌<◌, All, length, map, Option, Some, None, Result, Ok, Err, false, ℤ, pos, ◌+ℤ◌, ◌*ℤ◌, int_lt, codes, ◌≡◌}
 use Rattle.std.specs.Ordering.{nat_cmp, is_lt}
 use Rattle.std.specs.Cmp.Lexicographic.{slice_cmp}
 use Rattle.std.specs.Prelude.{Vec}
@@ -12,12 +12,12 @@ use Rattle.resb_tree.specs.Fields.{field_in, text_in, bytes_in, integers_in, ite
 use Rattle.resb_tree.specs.declared.resource.Resource.{Resource}
 use Rattle.zoneinfo64.specs.declared.error.BinaryDeserializerError.{BinaryDeserializerError}
 use Rattle.zoneinfo64.specs.declared.error.BinaryDeserializerError.TheVariants as errors
-use Rattle.zoneinfo64.specs.declared.offset.Offset.{Offset}
-use Rattle.zoneinfo64.specs.declared.offset.Transition.{Transition}
-use Rattle.zoneinfo64.specs.declared.rule.RuleDates.{RuleDates}
-use Rattle.zoneinfo64.specs.Zone.{RawRule, PlainRule, PlainZone}
+use Rattle.timeline.specs.declared.offset.Offset.{Offset}
+use Rattle.timeline.specs.declared.offset.Transition.{Transition}
+use Rattle.timeline.specs.Table.{PlainSeconds, pair_offset}
+use Rattle.timeline.specs.Zone.{RawRule, PlainRule, PlainZone, fits_i32, plain_rule}
 use Rattle.zoneinfo64.specs.NamedZone.{NamedZone, Place, IsZone, IsAlias, name_text}
-use Rattle.zoneinfo64.specs.Bundle.{as_i32, fits_i32, wide_seconds, first_of, pair_offset, list_or_empty, region_of_chars, rises, all_resolved, raw_rule, rules_of, rule_named, plain_rule, table_of}
+use Rattle.zoneinfo64.specs.Bundle.{as_i32, wide_seconds, first_of, list_or_empty, region_of_chars, rises, all_resolved, raw_rule, rules_of, rule_named, table_of}
 use Rattle.zoneinfo64.specs.RuleView.{rule_for}
 
 -- what was read is what there is; or there is none; or memory ran out
@@ -35,13 +35,13 @@ rule_in value = do
   raw_rule words
 
 -- a map has the same rules as a list
-pub record HasRules (found : BTreeMap (Vec ℕ Global) RuleDates) (rules : Option (List (List ℕ × RawRule))) : Type 0 where
+pub record HasRules (found : BTreeMap (Vec ℕ Global) RawRule) (rules : Option (List (List ℕ × RawRule))) : Type 0 where
   pub list : List (List ℕ × RawRule)
   pub whole : rules ≡ Some list
   pub each : (text : List ℕ) → rule_for found text ≡ rule_named text list
 
 -- the rules were read into a map; or a rule is broken; or memory ran out
-abbrev pub ReadsRules : Result (BTreeMap (Vec ℕ Global) RuleDates) BinaryDeserializerError → Option (List (List ℕ × RawRule)) → Type 0
+abbrev pub ReadsRules : Result (BTreeMap (Vec ℕ Global) RawRule) BinaryDeserializerError → Option (List (List ℕ × RawRule)) → Type 0
 ReadsRules (Ok found) rules = HasRules found rules
 ReadsRules (Err errors.Memory) rules = Unit {0}
 ReadsRules (Err errors.Rules) rules = rules ≡ None
@@ -120,16 +120,12 @@ with_front front (Some xs) = Some (front ++ xs)
 abbrev pub seconds_of : List ℕ → List ℕ → List ℕ → List ℤ
 seconds_of early middle late = wide early ++ map as_i32 middle ++ wide late
 
--- a transition at a second to a pair
-abbrev pub transition_to : ℤ × ℤ → ℤ → Transition
-transition_to pair second = record { since = second; offset = pair.0 +ℤ pair.1; rule_applies = int_lt (pos 0) pair.1 }
+abbrev pub plain_seconds : List ℕ → List ℕ → List ℕ → PlainSeconds
+plain_seconds early middle late = record { list = seconds_of early middle late; early = length (wide early); late = length (wide late) }
 
--- the transitions at some seconds were appended, and those at more seconds take the numbers that are left; or there is no table
-abbrev pub GoesOn : List (ℤ × ℤ) → List Transition → List ℤ → List ℕ → Result (Bor (List ℕ)) BinaryDeserializerError → List Transition → Type 0
-GoesOn pairs old seconds numbers (Ok rest) new = (more : List ℤ) → with_front old (table_of pairs (seconds ++ more) numbers) ≡ with_front new (table_of pairs more rest.now)
-GoesOn pairs old seconds numbers (Err errors.Memory) new = Unit {0}
-GoesOn pairs old seconds numbers (Err errors.Rules) new = (more : List ℤ) → table_of pairs (seconds ++ more) numbers ≡ None
-GoesOn pairs old seconds numbers (Err errors.Tree) new = ⊥
+-- each second has a number, which is that of a pair
+abbrev pub AreKnown : List (ℤ × ℤ) → List ℤ → List ℕ → Type 0
+AreKnown pairs seconds numbers = (length numbers ≡ length seconds) × All (λ n. n < length pairs) numbers
 
 -- ---- a zone
 
@@ -137,8 +133,9 @@ GoesOn pairs old seconds numbers (Err errors.Tree) new = ⊥
 abbrev pub Leaves : List ℕ → Resource → Resource → Type 0
 Leaves key old new = (other : List ℕ) → bytes_eq other key ≡ false → field_in other new ≡ field_in other old
 
-abbrev pub zone_from : Offset → List Transition → ℕ → ℕ → Option PlainRule → List (ℤ × ℤ) → List ℕ → List ℕ → PlainZone
-zone_from initial table early late rule pairs numbers links = record {
+-- a zone with this table
+abbrev pub zone_with : Offset → List Transition → ℕ → ℕ → Option PlainRule → List (ℤ × ℤ) → List ℕ → List ℕ → PlainZone
+zone_with initial table early late rule pairs numbers links = record {
   initial = initial;
   table = table;
   early = early;
@@ -160,7 +157,7 @@ zone_steps find zone = do
   links ← integers_at (codes "links") zone
   table ← table_of pairs (early ++ map as_i32 middle ++ late) numbers
   rule ← zone_rule find zone
-  Some (zone_from initial table (length early) (length late) rule pairs numbers links)
+  Some (zone_with initial table (length early) (length late) rule pairs numbers links)
 
 -- ---- the list
 

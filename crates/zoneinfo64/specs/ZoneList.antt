@@ -1,28 +1,21 @@
 -- The zone list that a `ZoneInfo64` keeps.
-use Rattle.std.specs.Prelude.{◌≡◌, ◌≤◌, ◌<◌, List, map, length, All, IsTrue}
+use Rattle.std.specs.Prelude.{◌≡◌, ◌≤◌, ◌<◌, List, map, length, All, IsTrue, Option, Some, None}
+use Rattle.std.specs.Borrow.{Bor}
 use Rattle.std.specs.String.{string_bytes}
 use Rattle.zoneinfo64.specs.declared.zone.Named.{Named}
 use Rattle.zoneinfo64.specs.declared.zone.Item.{Item}
 use Rattle.zoneinfo64.specs.declared.zone.Item.TheVariants as item
-use Rattle.zoneinfo64.specs.declared.zone.ZoneData.{ZoneData}
-use Rattle.zoneinfo64.specs.Zone.{PlainZone}
+use Rattle.timeline.specs.Zone.{PlainZone}
 use Rattle.zoneinfo64.specs.NamedZone.{NamedZone, Place, IsZone, IsAlias, name_text}
 use Rattle.zoneinfo64.specs.Bundle.{rises, all_resolved}
 
-abbrev pub plain_data : ZoneData → PlainZone
-plain_data d = record {
-  initial = d.initial;
-  table = d.table.items;
-  early = d.early;
-  late = d.late;
-  rule = d.rule;
-  type_offsets = d.type_offsets.items;
-  type_map = d.type_map;
-  links = d.links;
-}
+-- the plain zone of data that was lent, if any was
+abbrev pub seen_data : Option (Bor PlainZone) → Option PlainZone
+seen_data None = None
+seen_data (Some d) = Some d.now
 
 abbrev pub place_of_item : Item → Place
-place_of_item (item.Zone d) = IsZone (plain_data d)
+place_of_item (item.Zone d) = IsZone d
 place_of_item (item.Alias n) = IsAlias n
 
 abbrev pub named_of : Named → NamedZone

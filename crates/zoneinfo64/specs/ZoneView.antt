@@ -1,8 +1,12 @@
 -- The entry and the plain zone behind a `Zone`.
-use Rattle.std.specs.Prelude.{Option, slice_get}
-use Rattle.zoneinfo64.specs.Zone.{PlainZone}
+use Rattle.std.specs.Prelude.{List, Option, slice_get}
+use Rattle.timeline.specs.Zone.{PlainZone}
 use Rattle.zoneinfo64.specs.NamedZone.{NamedZone, resolved_in}
 use Rattle.zoneinfo64.specs.declared.zone.Zone.{Zone}
+
+-- the zone list that it is one of
+abbrev pub list_of : Zone → List NamedZone
+list_of z = z.info.now
 
 -- the entry at its own place
 abbrev pub entry_of : Zone → Option NamedZone

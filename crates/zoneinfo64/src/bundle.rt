@@ -252,6 +252,8 @@ impl ZoneInfo64 {
 }
 
 #[cfg(test)]
+mod check_tests;
+#[cfg(test)]
 mod lookup_tests;
 #[cfg(test)]
 mod rule_tests;
@@ -259,3 +261,5 @@ mod rule_tests;
 mod tests;
 #[cfg(test)]
 mod trees;
+#[cfg(test)]
+mod zoned_tests;

@@ -1,20 +1,18 @@
 //! The fields of a zone.
-ghost use Rattle.std.specs.Prelude.{◌≡◌, ℕ, ◌+◌, ◌+ℤ◌, ◌≤◌, map, IsTrue, IfOk, IfSome, length, slice_get, vec_len, vec_capacity};
+ghost use Rattle.std.specs.Prelude.{◌≡◌, ℕ, ◌+◌, ◌<◌, ◌≤◌, ◌++◌, ◌↔◌, All, map, IsTrue, IfOk, IfSome, length, vec_len, vec_capacity};
 ghost use Rattle.resb_tree.specs.Fields.{field_in, integers_in};
-ghost use Rattle.zoneinfo64.specs.Bundle.{as_i32, fits_i32, pair_offset, sums_fit, table_of, region_byte, region_of_chars};
+ghost use Rattle.timeline.specs.Table.{sums_fit};
+ghost use Rattle.zoneinfo64.specs.Bundle.{as_i32, region_byte, region_of_chars};
 ghost use Rattle.zoneinfo64.specs.RuleView.{rule_for};
-ghost use Rattle.zoneinfo64.specs.Steps.{Reads, pair_of, offset_steps, type_offsets, initial_of, integers_at, bytes_at, wide, wide_second, wide_at, seconds_of, transition_to, Leaves, GoesOn, used_rule, zone_rule, zone_steps};
-ghost use Rattle.zoneinfo64.specs.ZoneList.{plain_data};
+ghost use Rattle.zoneinfo64.specs.Steps.{Reads, pair_of, offset_steps, type_offsets, integers_at, bytes_at, wide, wide_second, wide_at, seconds_of, plain_seconds, AreKnown, Leaves, used_rule, zone_rule, zone_steps};
 
 use crate::error::BinaryDeserializerError;
-use crate::offset::{Offset, Transition, UtcOffset};
 use crate::region::Region;
-use crate::rule::YearRule;
 use crate::rules::Rules;
-use crate::zone::ZoneData;
 use resb_tree::Resource;
 use sqlite_items::Items;
-use std::alloc::Global;
+use std::alloc::{AllocError, Global};
+use timeline::{Seconds, ZoneData, ZoneRule};
 
 /// A unit of a region as a byte, 0 where it is not ASCII.
 fn region_byte(unit: u16) -> u8
@@ -142,131 +140,81 @@ fn wide_second(high: u32, low: u32) -> i64
     i64::from(signed(high)) * 4_294_967_296 + i64::from(low)
 }
 
-fn pair_offset(pair: (i32, i32)) -> Offset
-    requires { IsTrue (fits_i32 (pair.0 +ℤ pair.1)) }
-    ensures { result ≡ pair_offset pair }
+/// Appends seconds of two words each.
+fn push_wide(list: &mut Vec<i64>, words: &[u32])
+    requires room { vec_len list.old + length (wide words.now) ≤ vec_capacity list.old }
+    ensures items { list.new.items ≡ list.old.items ++ wide words.now }
+    ensures room { vec_capacity list.new ≡ vec_capacity list.old }
 {
-    let (standard, extra) = pair;
-    Offset {
-        offset: UtcOffset::from_seconds(standard + extra),
-        rule_applies: extra > 0,
-    }
-}
-
-/// The pair of that number.
-fn pair_at(pairs: &[(i32, i32)], number: u8) -> Option<(i32, i32)>
-    ensures { result ≡ slice_get pairs.now number }
-{
-    pairs.get(usize::from(number)).copied()
-}
-
-/// The transition at a second to a pair.
-fn transition_to(pair: (i32, i32), second: i64) -> Transition
-    requires { IsTrue (fits_i32 (pair.0 +ℤ pair.1)) }
-    ensures { result ≡ transition_to pair second }
-{
-    let (standard, extra) = pair;
-    Transition {
-        since: second,
-        offset: UtcOffset::from_seconds(standard + extra),
-        rule_applies: extra > 0,
-    }
-}
-
-/// The transition at a second of two words to a pair.
-fn wide_transition(pair: (i32, i32), high: u32, low: u32) -> Transition
-    requires { IsTrue (fits_i32 (pair.0 +ℤ pair.1)) }
-    ensures { result ≡ transition_to pair (wide_second high low) }
-{
-    transition_to(pair, wide_second(high, low))
-}
-
-/// The transition at a second of one word to a pair.
-fn narrow_transition(pair: (i32, i32), second: u32) -> Transition
-    requires { IsTrue (fits_i32 (pair.0 +ℤ pair.1)) }
-    ensures { result ≡ transition_to pair (as_i32 second) }
-{
-    transition_to(pair, i64::from(signed(second)))
-}
-
-/// Appends the transitions at seconds of two words each to the pairs of the first numbers, and answers the numbers that are
-/// left.
-fn push_wide<'n>(
-    table: &mut Vec<Transition>,
-    pairs: &[(i32, i32)],
-    words: &[u32],
-    numbers: &'n [u8],
-) -> Result<&'n [u8], BinaryDeserializerError>
-    requires fit { IsTrue (sums_fit pairs.now) }
-    requires room { vec_len table.old + length numbers.now ≤ vec_capacity table.old }
-    ensures table { GoesOn pairs.now table.old.items (wide words.now) numbers.now result table.new.items }
-    ensures room { IfOk result (λ rest. vec_len table.new + length rest.now ≤ vec_capacity table.new) }
-{
-    let mut seconds = words;
-    let mut rest = numbers;
-    while let [high, low, later @ ..] = seconds {
-        let [number, more @ ..] = rest else {
-            return Err(BinaryDeserializerError::Rules);
-        };
-        let Some(pair) = pair_at(pairs, *number) else {
-            return Err(BinaryDeserializerError::Rules);
-        };
-        table.push_reserved(wide_transition(pair, *high, *low));
-        seconds = later;
+    let mut rest = words;
+    while let [high, low, more @ ..] = rest {
+        list.push_reserved(wide_second(*high, *low));
         rest = more;
     }
-    Ok(rest)
 }
 
-/// The same at seconds of one word each.
-fn push_narrow<'n>(
-    table: &mut Vec<Transition>,
-    pairs: &[(i32, i32)],
-    words: &[u32],
-    numbers: &'n [u8],
-) -> Result<&'n [u8], BinaryDeserializerError>
-    requires fit { IsTrue (sums_fit pairs.now) }
-    requires room { vec_len table.old + length numbers.now ≤ vec_capacity table.old }
-    ensures table { GoesOn pairs.now table.old.items (map as_i32 words.now) numbers.now result table.new.items }
-    ensures room { IfOk result (λ rest. vec_len table.new + length rest.now ≤ vec_capacity table.new) }
+/// Appends seconds of one word each.
+fn push_narrow(list: &mut Vec<i64>, words: &[u32])
+    requires room { vec_len list.old + length words.now ≤ vec_capacity list.old }
+    ensures items { list.new.items ≡ list.old.items ++ map as_i32 words.now }
+    ensures room { vec_capacity list.new ≡ vec_capacity list.old }
 {
-    let mut seconds = words;
-    let mut rest = numbers;
-    while let [second, later @ ..] = seconds {
-        let [number, more @ ..] = rest else {
-            return Err(BinaryDeserializerError::Rules);
-        };
-        let Some(pair) = pair_at(pairs, *number) else {
-            return Err(BinaryDeserializerError::Rules);
-        };
-        table.push_reserved(narrow_transition(pair, *second));
-        seconds = later;
+    let mut rest = words;
+    while let [word, more @ ..] = rest {
+        list.push_reserved(i64::from(signed(*word)));
         rest = more;
     }
-    Ok(rest)
 }
 
-/// The table of a zone: the transitions at these seconds to the pairs of these numbers.
-fn table(
+/// Whether three lists of words are so many seconds.
+fn have_len(early: &[u32], middle: &[u32], late: &[u32], len: usize) -> bool
+    ensures { IsTrue result ↔ (len ≡ length (seconds_of early.now middle.now late.now)) }
+{
+    let (first, last) = (wide_len(early), wide_len(late));
+    first <= len && middle.len() <= len - first && len - first - middle.len() == last
+}
+
+/// The seconds of three lists of words, so many in all.
+fn seconds(
     alloc: Global,
+    early: &[u32],
+    middle: &[u32],
+    late: &[u32],
+    len: usize,
+) -> Result<Seconds, AllocError>
+    requires { len ≡ length (seconds_of early.now middle.now late.now) }
+    ensures { IfOk result (λ s. s ≡ plain_seconds early.now middle.now late.now) }
+{
+    let mut list = Vec::with_capacity(alloc, len)?;
+    push_wide(&mut list, early);
+    push_narrow(&mut list, middle);
+    push_wide(&mut list, late);
+    Ok(Seconds::new(list, wide_len(early), wide_len(late)))
+}
+
+/// Whether each number is below that length.
+fn are_below(numbers: &[u8], len: usize) -> bool
+    ensures { IsTrue result ↔ All (λ n. n < len) numbers.now }
+{
+    for number in numbers {
+        if usize::from(*number) >= len {
+            return false;
+        }
+    }
+    true
+}
+
+/// Whether each second of three lists of words has the number of a pair.
+fn are_entries(
     pairs: &[(i32, i32)],
     early: &[u32],
     middle: &[u32],
     late: &[u32],
     numbers: &[u8],
-) -> Result<Vec<Transition>, BinaryDeserializerError>
-    requires { IsTrue (sums_fit pairs.now) }
-    ensures { Reads (λ v. v.items) result (table_of pairs.now (seconds_of early.now middle.now late.now) numbers.now) }
+) -> bool
+    ensures { IsTrue result ↔ AreKnown pairs.now (seconds_of early.now middle.now late.now) numbers.now }
 {
-    let mut table = Vec::with_capacity(alloc, numbers.len())?;
-    let rest = push_wide(&mut table, pairs, early, numbers)?;
-    let rest = push_narrow(&mut table, pairs, middle, rest)?;
-    let rest = push_wide(&mut table, pairs, late, rest)?;
-    if rest.is_empty() {
-        Ok(table)
-    } else {
-        Err(BinaryDeserializerError::Rules)
-    }
+    have_len(early, middle, late, numbers.len()) && are_below(numbers, pairs.len())
 }
 
 /// The rule that a zone names.
@@ -276,7 +224,7 @@ fn used_rule(
     key: &Resource,
     raw: &Resource,
     year: &Resource,
-) -> Result<YearRule, BinaryDeserializerError>
+) -> Result<ZoneRule, BinaryDeserializerError>
     ensures { Reads (λ r. r) result (used_rule (rule_for rules.now) key.now raw.now year.now) }
 {
     let Some(text) = key.text() else {
@@ -291,7 +239,7 @@ fn used_rule(
     let Some(dates) = rules.get(text) else {
         return Err(BinaryDeserializerError::Rules);
     };
-    match YearRule::from_dates(dates, raw, first_year) {
+    match ZoneRule::from_dates(dates, raw, first_year) {
         Some(rule) => Ok(rule),
         None => Err(BinaryDeserializerError::Rules),
     }
@@ -299,7 +247,7 @@ fn used_rule(
 
 /// The rule of a zone, if it has the three fields of one.
 #[tactic(auto, unfolding(crate::specs::Steps::zone_rule))]
-fn zone_rule(rules: &Rules, zone: &Resource) -> Result<Option<YearRule>, BinaryDeserializerError>
+fn zone_rule(rules: &Rules, zone: &Resource) -> Result<Option<ZoneRule>, BinaryDeserializerError>
     ensures { Reads (λ r. r) result (zone_rule (rule_for rules.now) zone.now) }
 {
     let key = zone.field(b"finalRule");
@@ -312,17 +260,6 @@ fn zone_rule(rules: &Rules, zone: &Resource) -> Result<Option<YearRule>, BinaryD
             Ok(Some(rule))
         }
         _ => Err(BinaryDeserializerError::Rules),
-    }
-}
-
-/// What holds before all transitions: the offset of the first pair.
-fn initial(pairs: &[(i32, i32)]) -> Option<Offset>
-    requires { IsTrue (sums_fit pairs.now) }
-    ensures { result ≡ initial_of pairs.now }
-{
-    match pairs.first() {
-        Some(pair) => Some(pair_offset(*pair)),
-        None => None,
     }
 }
 
@@ -362,32 +299,25 @@ pub fn zone_data(
     rules: &Rules,
     mut zone: Resource,
 ) -> Result<ZoneData, BinaryDeserializerError>
-    ensures { Reads plain_data result (zone_steps (rule_for rules.now) zone) }
+    ensures { Reads (λ z. z) result (zone_steps (rule_for rules.now) zone) }
 {
     let type_offsets = type_offsets(alloc, &zone)?;
-    let Some(initial) = initial(&type_offsets) else {
+    let pairs = type_offsets.as_slice();
+    if pairs.is_empty() {
         return Err(BinaryDeserializerError::Rules);
-    };
+    }
     let early = wide(&zone, b"transPre32")?;
     let middle = integers(&zone, b"trans")?;
     let late = wide(&zone, b"transPost32")?;
     let numbers = bytes(&zone, b"typeMap")?;
     integers(&zone, b"links")?;
-    let table = table(alloc, &type_offsets, early, middle, late, numbers)?;
+    if !are_entries(pairs, early, middle, late, numbers) {
+        return Err(BinaryDeserializerError::Rules);
+    }
+    let seconds = seconds(alloc, early, middle, late, numbers.len())?;
     let rule = zone_rule(rules, &zone)?;
-    let early = wide_len(early);
-    let late = wide_len(late);
     // what is kept as it was read is moved, and has no second copy
     let type_map = taken_bytes(alloc, &mut zone, b"typeMap");
     let links = taken_integers(alloc, &mut zone, b"links");
-    Ok(ZoneData {
-        initial,
-        table,
-        early,
-        late,
-        rule,
-        type_offsets,
-        type_map,
-        links,
-    })
+    Ok(ZoneData::new(seconds, rule, type_offsets, type_map, links))
 }

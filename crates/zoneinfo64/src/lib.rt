@@ -2,18 +2,22 @@
 #![tactic(auto)]
 
 mod bundle;
+mod checked;
+mod chrono;
 mod error;
 mod fields;
 pub mod laws;
-mod offset;
 mod region;
-mod rule;
+mod rule_words;
 mod rules;
 mod utf16;
 mod zone;
 
+pub use checked::CheckedZones;
+pub use chrono::ChronoOffset;
 pub use error::BinaryDeserializerError;
-pub use offset::{Offset, PossibleOffset, Transition, UtcOffset};
 pub use region::Region;
+pub use steps::Steps;
+pub use timeline::{Offset, PossibleOffset, Transition, UtcOffset, ZoneFault};
 pub use utf16::{PotentialUtf16, Utf16Chars};
 pub use zone::{Zone, ZoneInfo64};

@@ -3,17 +3,18 @@ ghost use Rattle.std.specs.Prelude.{◌≡◌, IfOk, option_map};
 ghost use Rattle.std.specs.Option.{option_copied};
 ghost use Rattle.resb_tree.specs.Fields.{integers_in};
 ghost use Rattle.zoneinfo64.specs.Bundle.{rules_of, raw_rule};
-ghost use Rattle.zoneinfo64.specs.RuleView.{rule_for, raw_of};
+ghost use Rattle.zoneinfo64.specs.RuleView.{rule_for};
 ghost use Rattle.zoneinfo64.specs.Steps.{Reads, ReadsRules, rule_in};
 
 use crate::error::BinaryDeserializerError;
-use crate::rule::{RuleDates, dates};
+use crate::rule_words::dates;
 use resb_tree::{Key, Resource};
 use std::alloc::{AllocError, Global};
 use std::collections::BTreeMap;
+use timeline::PlacedDates;
 
 /// The rules by their keys, whose bytes are compared with the units of a text.
-pub type Rules = BTreeMap<Vec<u16>, RuleDates>;
+pub type Rules = BTreeMap<Vec<u16>, PlacedDates>;
 
 /// A key as units.
 fn units(alloc: Global, key: &[u8]) -> Result<Vec<u16>, AllocError>
@@ -28,14 +29,14 @@ fn units(alloc: Global, key: &[u8]) -> Result<Vec<u16>, AllocError>
 
 /// The rule of a list of eleven integers.
 #[tactic(auto, unfolding(crate::specs::Steps::rule_in))]
-fn rule(value: &Resource) -> Result<RuleDates, BinaryDeserializerError>
-    ensures { Reads raw_of result (rule_in value.now) }
+fn rule(value: &Resource) -> Result<PlacedDates, BinaryDeserializerError>
+    ensures { Reads (λ r. r) result (rule_in value.now) }
 {
     let Some(words) = value.integers() else {
         return Err(BinaryDeserializerError::Rules);
     };
     match dates(words) {
-        Some(dates) => Ok(dates),
+        Some(dates) => Ok(PlacedDates::new(dates)),
         None => Err(BinaryDeserializerError::Rules),
     }
 }

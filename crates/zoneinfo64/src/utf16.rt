@@ -3,6 +3,7 @@ ghost use Rattle.std.specs.Prelude.{◌≡◌, ◌&&◌, ◌∷◌, [], Some, No
 ghost use Rattle.std.specs.Option.{unwrap_or};
 ghost use Rattle.std.specs.Char.Utf16.{utf16_lossy_chars, lone_unit_char, is_high_surrogate, is_low_surrogate, surrogate_pair_char};
 ghost use Rattle.std.specs.Iterator.{YieldsFirst, item_count};
+ghost use Rattle.zoneinfo64.specs.Utf16View.{chars_in};
 
 use sqlite_items::Items;
 use std::marker::Model;
@@ -38,7 +39,7 @@ impl PotentialUtf16 {
 
     /// Its characters; U+FFFD stands for each surrogate without a partner.
     pub fn chars(&self) -> Utf16Chars<'_>
-        ensures { result.units.now ≡ self.now }
+        ensures { chars_in result ≡ utf16_lossy_chars self.now }
     {
         Utf16Chars {
             units: self.units.as_slice(),
@@ -94,9 +95,9 @@ fn first_char(units: &[u16]) -> Option<(char, &[u16])>
 impl<'a> Iterator for Utf16Chars<'a> {
     type Item = char;
 
-    ghost next_gives = { YieldsFirst (λ s. utf16_lossy_chars s.units.now) };
+    ghost next_gives = { YieldsFirst chars_in };
 
-    ghost remaining = { item_count (λ s. utf16_lossy_chars s.units.now) };
+    ghost remaining = { item_count chars_in };
 
     fn next(&mut self) -> Option<char> {
         let (first, others) = first_char(self.units)?;

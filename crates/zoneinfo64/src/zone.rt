@@ -2,27 +2,13 @@
 ghost use Rattle.std.specs.Prelude.{◌≡◌, IsTrue, is_some, slice_get};
 ghost use Rattle.zoneinfo64.specs.NamedZone.{resolved_in};
 
-use crate::offset::{Offset, PossibleOffset, Transition, UtcOffset};
 use crate::region::Region;
-use crate::rule::YearRule;
 use crate::utf16::PotentialUtf16;
-use sqlite_items::Items;
 use std::cmp::Ordering;
 use std::marker::Model;
-
-/// A zone's data: what holds at first, the table of transitions with the lengths of its first and third part, the yearly
-/// rule, and the lists that are kept as they were read.
-#[derive(Drop)]
-pub struct ZoneData {
-    pub initial: Offset,
-    pub table: Vec<Transition>,
-    pub early: usize,
-    pub late: usize,
-    pub rule: Option<YearRule>,
-    pub type_offsets: Vec<(i32, i32)>,
-    pub type_map: Items<u8>,
-    pub links: Items<u32>,
-}
+use std::sync::ledger::Ledger;
+use steps::Steps;
+use timeline::{Offset, PossibleOffset, ZoneData, ZoneFault};
 
 /// A zone, or the place of one.
 #[derive(Drop)]
@@ -68,7 +54,9 @@ pub struct Zone<'a> {
 }
 
 impl ZoneInfo64 {
-    ghost use Rattle.zoneinfo64.specs.ZoneList.{zones_of, AreEntries};
+    ghost use Rattle.std.specs.Prelude.{◌<◌, length};
+    ghost use Rattle.zoneinfo64.specs.NamedZone.{zone_at};
+    ghost use Rattle.zoneinfo64.specs.ZoneList.{zones_of, AreEntries, seen_data};
 
     /// The bundle of these entries, whose names rise.
     pub(crate) fn from_entries(entries: Vec<Named>) -> ZoneInfo64
@@ -77,12 +65,30 @@ impl ZoneInfo64 {
     {
         ZoneInfo64 { entries }
     }
+
+    /// How many entries there are, aliases among them.
+    pub(crate) fn len(&self) -> usize
+        ensures { result ≡ length self.now }
+    {
+        self.entries.len()
+    }
+
+    /// The data of the zone at a place; none where an alias stands there.
+    pub(crate) fn data_at(&self, place: usize) -> Option<&ZoneData>
+        requires { place < length self.now }
+        ensures { zone_at self.now place ≡ seen_data result }
+    {
+        match &self.entries.as_slice()[place].item {
+            Item::Zone(data) => Some(data),
+            Item::Alias(_) => None,
+        }
+    }
 }
 
 impl ZoneInfo64 {
     ghost use Rattle.std.specs.Prelude.{IfSome, IfNone, IsSome, None};
     ghost use Rattle.zoneinfo64.specs.NamedZone.{named, entry_named};
-    ghost use Rattle.zoneinfo64.specs.ZoneView.{entry_of, plain_zone};
+    ghost use Rattle.zoneinfo64.specs.ZoneView.{list_of, entry_of, plain_zone};
 
     /// The zone of that name, an IANA identifier. Names are compared character by character, and since they rise they
     /// are searched by halving.
@@ -93,6 +99,7 @@ impl ZoneInfo64 {
         ensures zone { IfSome result
             (λ z. IsSome (plain_zone z) × (plain_zone z ≡ named self.now iana.now)) }
         ensures entry { IfSome result (λ z. entry_of z ≡ entry_named self.now iana.now) }
+        ensures list { IfSome result (λ z. list_of z ≡ self.now) }
     {
         match place_of(self.entries.as_slice(), iana) {
             Some(place) => Some(Zone {
@@ -129,12 +136,12 @@ fn place_of(entries: &[Named], iana: &str) -> Option<usize>
 }
 
 impl<'a> Zone<'a> {
-    ghost use Rattle.std.specs.Prelude.{◌↔◌, ℤ, ◌-ℤ◌, IfSome};
+    ghost use Rattle.std.specs.Prelude.{◌-ℤ◌, IfSome};
     ghost use Rattle.civil.specs.Calendar.{day_of, wall_second};
-    ghost use Rattle.zoneinfo64.specs.Laws.{IsFixed};
-    ghost use Rattle.zoneinfo64.specs.Timeline.{offset_at};
-    ghost use Rattle.zoneinfo64.specs.Placement.{IsPlaced};
-    ghost use Rattle.zoneinfo64.specs.Lookups.{AnswersWall, IsClock};
+    ghost use Rattle.timeline.specs.Laws.{IsLawful};
+    ghost use Rattle.timeline.specs.Timeline.{offset_at};
+    ghost use Rattle.timeline.specs.Placement.{IsPlaced};
+    ghost use Rattle.timeline.specs.Lookups.{AnswersWall, IsDateTime, placing};
     ghost use Rattle.zoneinfo64.specs.ZoneView.{entry_of, plain_zone};
 
     /// Its name, an alias's own.
@@ -152,23 +159,35 @@ impl<'a> Zone<'a> {
     }
 
     /// The offset in force at a second counted from 1970-01-01 00:00:00 UTC, which may be any `i64`: in seconds east of
-    /// UTC, and whether it is one of daylight time.
+    /// UTC, and whether it is one of daylight time. It is that of the last transition that is not after the second, in the
+    /// table or by the yearly rule; before them all it is the zone's initial one.
     ///
-    /// So far a zone with transitions or a rule answers its initial offset, and nothing is promised there. Takes no
-    /// memory.
+    /// In a zone that is not lawful it is some offset, and nothing is promised. Takes no memory.
     pub fn for_timestamp(&self, seconds_since_epoch: i64) -> Offset
         ensures { IfSome (plain_zone self.now)
-            (λ z. IsFixed z → result ≡ offset_at z seconds_since_epoch) }
+            (λ z. IsLawful z → result ≡ offset_at z seconds_since_epoch) }
     {
-        // without entries one offset holds at all seconds
-        let _ = seconds_since_epoch;
-        data_of(self.info, self.place).initial
+        data_of(self.info, self.place).for_timestamp(seconds_since_epoch)
+    }
+
+    /// The offsets of a wall second: seconds from 1970-01-01 00:00:00 as clocks in the zone show them. It may be any `i64`.
+    ///
+    /// `Single` where one second shows it, with the offset there; `Ambiguous` where two show it, before and from a
+    /// transition on; `None` where none does, since clocks are put forward over it. In a zone that is not lawful it is one
+    /// of these, and nothing is promised. Takes no memory.
+    pub fn offsets_of_wall(&self, wall: i64) -> PossibleOffset
+        ensures answers { IfSome (plain_zone self.now) (λ z. IsLawful z → AnswersWall z wall result) }
+        ensures placed { IfSome (plain_zone self.now)
+            (λ z. IsLawful z → IsPlaced z wall (wall -ℤ (placing result).offset)) }
+    {
+        data_of(self.info, self.place).offsets_of_wall(wall)
     }
 
     /// The offsets of a wall time of the proleptic Gregorian calendar, which has a year 0; months and days count from 1.
     ///
-    /// In a zone of one offset this is `Single` with it. So far a zone with transitions or a rule answers its initial
-    /// offset, and nothing is promised there. Takes no memory.
+    /// `Single` where one second shows it, with the offset there; `Ambiguous` where two show it, before and from a
+    /// transition on; `None` where none does, since clocks are put forward over it. In a zone that is not lawful it is one
+    /// of these, and nothing is promised. Takes no memory.
     pub fn for_date_time(
         &self,
         year: i32,
@@ -178,46 +197,69 @@ impl<'a> Zone<'a> {
         minute: u8,
         second: u8,
     ) -> PossibleOffset
-        requires { IsClock year month day hour minute second }
-        ensures { IfSome (plain_zone self.now)
-            (λ z. IsFixed z → AnswersWall z (wall_second (day_of year month day) hour minute second) result) }
-    {
-        // and so one second shows each wall second
-        let _ = (year, month, day, hour, minute, second);
-        PossibleOffset::Single(data_of(self.info, self.place).initial)
-    }
-
-    /// Whether one lawful offset holds at all seconds: there is no transition and no rule, and the offset is less than
-    /// 86,400 seconds to either side of UTC. Each wall time is then shown once. Takes no memory.
-    pub fn fixed(&self) -> bool
-        ensures fixed { IfSome (plain_zone self.now) (λ z. IsTrue result ↔ IsFixed z) }
-        ensures placed { IsTrue result
-            → IfSome (plain_zone self.now) (λ z. (w t : ℤ) → IsPlaced z w (w -ℤ (offset_at z t).offset)) }
+        requires { IsDateTime year month day hour minute second }
+        ensures answers { IfSome (plain_zone self.now)
+            (λ z. IsLawful z → AnswersWall z (wall_second (day_of year month day) hour minute second) result) }
+        ensures placed { IfSome (plain_zone self.now) (λ z. IsLawful z
+            → IsPlaced z (wall_second (day_of year month day) hour minute second)
+            (wall_second (day_of year month day) hour minute second -ℤ (placing result).offset)) }
     {
         let data = data_of(self.info, self.place);
-        if !data.table.as_slice().is_empty() {
-            return false;
-        }
-        if data.rule.is_some() {
-            return false;
-        }
-        is_small(data.initial.offset)
+        data.for_date_time(year, month, day, hour, minute, second)
     }
 }
 
-ghost use Rattle.std.specs.Prelude.{◌↔◌};
-ghost use Rattle.zoneinfo64.specs.Laws.{IsSmall};
+impl<'a> Zone<'a> {
+    ghost use Rattle.std.specs.Prelude.{◌↔◌, ◌+◌, ◌-◌, ◌*◌, ◌^◌, ◌≤◌, length, IsOk, IfErr, IfSome};
+    ghost use Rattle.timeline.specs.Laws.{IsLawful, KeepsOrder};
+    ghost use Rattle.timeline.specs.Timeline.{table_place};
+    ghost use Rattle.timeline.specs.Fault.{IsLeastBroken};
+    ghost use Rattle.zoneinfo64.specs.ZoneView.{plain_zone};
 
-/// Whether an offset is less than a day to either side.
-fn is_small(offset: UtcOffset) -> bool
-    ensures { IsTrue result ↔ IsSmall offset }
-{
-    let seconds = offset.seconds();
-    -86_400 < seconds && seconds < 86_400
+    /// How many transitions of the zone's table are not after a second, where the table rises.
+    ///
+    /// It halves the table, and takes a step for each second of it that it looks at. Takes no memory.
+    pub fn table_place<L: Ledger>(&self, second: i64, steps: &mut Steps<L>) -> usize
+        ensures place { IfSome (plain_zone self.now)
+            (λ z. KeepsOrder z → result ≡ table_place z second) }
+        ensures ticks { IfSome (plain_zone self.now)
+            (λ z. 2 ^ (steps.new - steps.old) ≤ 2 * length z.table + 1) }
+    {
+        data_of(self.info, self.place).table_place(second, steps)
+    }
+
+    /// Whether the zone is lawful: whether it keeps the eight laws in every year of its rule. Else the least law that it
+    /// breaks.
+    ///
+    /// All years of a kind keep the same laws, so it learns one year of each of the 14 kinds, by a step for each, and goes
+    /// through the table once. Takes no memory.
+    pub fn check<L: Ledger>(&self, steps: &mut Steps<L>) -> Result<(), ZoneFault>
+        ensures lawful { IfSome (plain_zone self.now) (λ z. IsOk result ↔ IsLawful z) }
+        ensures fault { IfSome (plain_zone self.now) (λ z. IfErr result (IsLeastBroken z)) }
+        ensures ticks { IfSome (plain_zone self.now)
+            (λ z. steps.new ≤ steps.old + (2000 + length z.table)) }
+    {
+        data_of(self.info, self.place).check(steps)
+    }
 }
 
-ghost use Rattle.zoneinfo64.specs.ZoneList.{plain_data, named_of};
+ghost use Rattle.zoneinfo64.specs.ZoneList.{named_of};
 ghost use Rattle.std.specs.Prelude.{Some};
+
+impl Zone<'_> {
+    ghost use Rattle.zoneinfo64.specs.NamedZone.{zone_at};
+    ghost use Rattle.zoneinfo64.specs.ZoneView.{list_of, plain_zone};
+
+    /// The place at which its data stands: its own, or for an alias that of the zone that it stands for.
+    pub(crate) fn data_place(&self) -> usize
+        ensures { zone_at (list_of self.now) result ≡ plain_zone self.now }
+    {
+        match &entry_at(self.info, self.place).item {
+            Item::Zone(_) => self.place as usize,
+            Item::Alias(target) => *target as usize,
+        }
+    }
+}
 
 /// The entry at a place.
 fn entry_at(info: &ZoneInfo64, place: u16) -> &Named
@@ -230,7 +272,7 @@ fn entry_at(info: &ZoneInfo64, place: u16) -> &Named
 /// The data of the zone at a place, an alias resolved.
 fn data_of(info: &ZoneInfo64, place: u16) -> &ZoneData
     requires { IsTrue (is_some (resolved_in info.now (slice_get info.now place))) }
-    ensures { resolved_in info.now (slice_get info.now place) ≡ Some (plain_data result.now) }
+    ensures { resolved_in info.now (slice_get info.now place) ≡ Some result.now }
 {
     match &entry_at(info, place).item {
         Item::Zone(data) => data,

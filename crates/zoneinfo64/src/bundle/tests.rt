@@ -1,11 +1,15 @@
+ghost use Rattle.std.specs.Prelude.{◌≡◌, ◌<◌};
+
 use super::trees::{
     US, ascii, bundle, empty, integers, is_refused, no_rules, one_zone, pair, table_zone, text,
     two_zones, with_one_name, zone, zone_with,
 };
 use super::*;
-use crate::offset::{Transition, UtcOffset};
-use crate::zone::ZoneData;
+use std::marker::Brand;
+use std::sync::ledger::{Blank, Ledger};
 use std::test::Fail;
+use steps::Steps;
+use timeline::{Transition, UtcOffset, ZoneData};
 
 /// The data of an entry that is no alias.
 fn data(entry: &Named) -> Option<&ZoneData> {
@@ -13,6 +17,24 @@ fn data(entry: &Named) -> Option<&ZoneData> {
         Item::Zone(data) => Some(data),
         Item::Alias(_) => None,
     }
+}
+
+fn entry_from<L: Ledger>(zone: &ZoneData, n: usize, blank: Blank) -> Option<Transition>
+    requires name { blank.name ≡ L.name }
+    requires parts { blank.parts ≡ L.parts }
+    requires some { 0 < L.parts }
+{
+    let mut steps = Steps::<L>::new(blank);
+    if n < zone.len() {
+        Some(zone.entry_at(n, &mut steps))
+    } else {
+        None
+    }
+}
+
+/// The nth transition of a zone's table, if there is one.
+fn entry(zone: &ZoneData, n: usize) -> Option<Transition> {
+    entry_from::<Brand>(zone, n, Blank::new(1))
 }
 
 #[test]
@@ -27,12 +49,12 @@ fn reads_one_zone(rt: HostRuntime) -> Result<(), Fail> {
     assert_eq!(rt; entry.name.units().len(), 10);
     assert_eq!(rt; entry.region.raw(), *b"001");
     let zone = data(entry).expect(&rt, "a zone");
-    assert_eq!(rt; zone.initial.offset.seconds(), 7200);
-    assert!(rt; !zone.initial.rule_applies);
-    assert_eq!(rt; zone.type_offsets.as_slice(), [(7200, 0)].as_slice());
-    assert_eq!(rt; zone.links.as_slice(), [0, 7].as_slice());
-    assert_eq!(rt; zone.table.len(), 0);
-    assert!(rt; zone.rule.is_none());
+    assert_eq!(rt; zone.initial().offset.seconds(), 7200);
+    assert!(rt; !zone.initial().rule_applies);
+    assert_eq!(rt; zone.type_offsets(), [(7200, 0)].as_slice());
+    assert_eq!(rt; zone.links(), [0, 7].as_slice());
+    assert_eq!(rt; zone.len(), 0);
+    assert!(rt; zone.rule().is_none());
     Ok(())
 }
 
@@ -44,12 +66,9 @@ fn reads_signed_offsets(rt: HostRuntime) -> Result<(), Fail> {
     let entries = zones_in(alloc, root)?;
     assert_eq!(rt; entries.len(), 1);
     let zone = data(&entries[0]).expect(&rt, "a zone");
-    assert_eq!(rt; zone.initial.offset.seconds(), -14_400);
-    assert!(rt; zone.initial.rule_applies);
-    assert_eq!(rt;
-        zone.type_offsets.as_slice(),
-        [(-18_000, 3600), (0, 0)].as_slice()
-    );
+    assert_eq!(rt; zone.initial().offset.seconds(), -14_400);
+    assert!(rt; zone.initial().rule_applies);
+    assert_eq!(rt; zone.type_offsets(), [(-18_000, 3600), (0, 0)].as_slice());
     Ok(())
 }
 
@@ -160,9 +179,9 @@ fn reads_a_table(rt: HostRuntime) -> Result<(), Fail> {
     let entries = zones_in(alloc, root)?;
     assert_eq!(rt; entries.len(), 1);
     let zone = data(&entries[0]).expect(&rt, "a zone");
-    assert_eq!(rt; zone.early, 2);
-    assert_eq!(rt; zone.late, 1);
-    assert_eq!(rt; zone.type_map.as_slice(), [0, 1, 0, 1, 0].as_slice());
+    assert_eq!(rt; zone.early(), 2);
+    assert_eq!(rt; zone.late(), 1);
+    assert_eq!(rt; zone.type_map(), [0, 1, 0, 1, 0].as_slice());
     let rows = [
         (-4_294_967_296, 7200, false),
         (-2_147_483_649, 10_800, true),
@@ -170,17 +189,17 @@ fn reads_a_table(rt: HostRuntime) -> Result<(), Fail> {
         (5, 10_800, true),
         (4_294_967_295, 7200, false),
     ];
-    assert_eq!(rt; zone.table.len(), 5);
-    for (entry, (since, seconds, rule_applies)) in zone.table.iter().zip(rows) {
+    assert_eq!(rt; zone.len(), 5);
+    let mut n = 0;
+    for (since, seconds, rule_applies) in rows {
         let offset = UtcOffset::from_seconds(seconds);
-        assert_eq!(rt;
-            *entry,
-            Transition {
-                since,
-                offset,
-                rule_applies
-            }
-        );
+        let wanted = Transition {
+            since,
+            offset,
+            rule_applies,
+        };
+        assert_eq!(rt; entry(zone, n), Some(wanted), "at {n}");
+        n += 1;
     }
     Ok(())
 }

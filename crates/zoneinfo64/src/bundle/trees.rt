@@ -177,12 +177,22 @@ pub fn los_angeles(
     rule: &[u16],
     raw: u32,
 ) -> Result<Items<(Key, Resource)>, AllocError> {
+    los_angeles_by(alloc, rule, raw, &[1, 0])
+}
+
+/// The same, with those numbers of its pairs.
+pub fn los_angeles_by(
+    alloc: Global,
+    rule: &[u16],
+    raw: u32,
+    numbers: &[u8],
+) -> Result<Items<(Key, Resource)>, AllocError> {
     let mut entries = Items::new(alloc);
     let offsets = integers(alloc, &[4_294_938_496, 0, 4_294_938_496, 3600])?;
     put(alloc, &mut entries, b"typeOffsets", offsets)?;
     let middle = integers(alloc, &[1_173_607_200, 1_194_166_800])?;
     put(alloc, &mut entries, b"trans", middle)?;
-    let numbers = Resource::Bytes(Items::from_slice(alloc, &[1, 0])?);
+    let numbers = Resource::Bytes(Items::from_slice(alloc, numbers)?);
     put(alloc, &mut entries, b"typeMap", numbers)?;
     put(alloc, &mut entries, b"finalRule", text(alloc, rule)?)?;
     put(alloc, &mut entries, b"finalRaw", Resource::Integer(raw))?;

@@ -1,5 +1,5 @@
 use Rattle.civil.proofs.CalendarLemmas.{in_calendar}
-use Rattle.civil.proofs.DateOrder.{days_in_order}
+use Rattle.civil.proofs.DateOrder.{days_in_order, date_once}
 use Rattle.civil.proofs.DateOfDay.{date_of_day}
 use Rattle.civil.proofs.laws.dates_are_days.Goals as goal
 
@@ -8,4 +8,5 @@ returns c = record {
   inside = in_calendar;
   order = days_in_order;
   onto = date_of_day;
+  once = date_once;
 }

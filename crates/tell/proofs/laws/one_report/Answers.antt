@@ -1,5 +1,6 @@
-use Rattle.tell.proofs.OneAnswer.{one_report}
+use Rattle.streams.proofs.ServeLemmas.{one_report}
+use Rattle.tell.specs.ReplyTexts.{IsReply}
 use Rattle.tell.proofs.laws.one_report.Goals as goal
 
 pub returns : goal.returns
-returns c = one_report
+returns c = λ speech zones. one_report (IsReply speech zones) (c.one_reply.ensures speech zones)

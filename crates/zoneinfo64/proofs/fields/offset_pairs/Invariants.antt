@@ -1,5 +1,5 @@
 use Rattle.std.proofs.Common.{◌≡◌, IsTrue, length}
-use Rattle.zoneinfo64.specs.Bundle.{sums_fit}
+use Rattle.timeline.specs.Table.{sums_fit}
 use Rattle.zoneinfo64.specs.Steps.{offset_steps}
 use Rattle.zoneinfo64.specs.Steps.{with_front}
 use Rattle.zoneinfo64.proofs.fields.offset_pairs.Given as goal

@@ -1,15 +1,14 @@
-use Rattle.std.proofs.Common.{◌≡◌, ◌≤◌, ◌+◌, List, ◌++◌, ℤ, length, vec_len}
+use Rattle.std.proofs.Common.{◌≡◌, ◌≤◌, ◌+◌, ◌++◌, length, vec_len, map}
 use Rattle.std.specs.Prelude.{vec_capacity}
-use Rattle.zoneinfo64.specs.Bundle.{table_of}
-use Rattle.zoneinfo64.specs.Steps.{with_front, wide}
+use Rattle.zoneinfo64.specs.Steps.{wide}
 use Rattle.zoneinfo64.proofs.fields.push_wide.Given as goal
 
--- the transitions so far, and then those of the seconds and numbers that are left, are all of them, whatever seconds follow
-abbrev pub invariant-loop-seconds : goal.invariant-loop-seconds
-invariant-loop-seconds l = record {
-  table : (more : List ℤ) → with_front l.fn.table.items (table_of l.pairs (wide l.words ++ more) l.numbers) ≡ with_front l.table.items (table_of l.pairs (wide l.seconds ++ more) l.rest);
-  room : vec_len l.table + length l.rest ≤ vec_capacity l.table;
+abbrev pub invariant-loop-rest : goal.invariant-loop-rest
+invariant-loop-rest l = record {
+  items : l.list.items ++ wide l.rest ≡ l.fn.list.items ++ wide l.words;
+  room : vec_len l.list + length (wide l.rest) ≤ vec_capacity l.list;
+  same : vec_capacity l.list ≡ vec_capacity l.fn.list;
 }
 
-abbrev pub decreases-loop-seconds : goal.decreases-loop-seconds
-decreases-loop-seconds l = length l.seconds
+abbrev pub decreases-loop-rest : goal.decreases-loop-rest
+decreases-loop-rest l = length l.rest

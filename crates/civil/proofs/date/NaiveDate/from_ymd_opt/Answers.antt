@@ -18,7 +18,7 @@ parts c =
       first_day = omega arith;
       last_day = omega (arith, length);
     } in
-    code_day _ _ _ _ _ is (c.days_before_year.ensures ∙ ap year_start same) (c.days_before_month.ensures ∙ ap (λ y. days_of_months y (c.args.month - 1)) same)
+    code_day _ _ _ _ _ is (c.days_before_year.ensures.value ∙ ap year_start same) (c.days_before_month.ensures.value ∙ ap (λ y. days_of_months y (c.args.month - 1)) same)
 
 pub overflow_add-number : goal.overflow_add-number
 overflow_add-number c = let p = parts c in omega (arith, p.small)

@@ -1,7 +1,8 @@
-use Rattle.std.proofs.Common.{sym}
-use Rattle.zoneinfo64.specs.ZoneList.{plain_data}
-use Rattle.zoneinfo64.proofs.OneOffset.{plain-offset_at}
+use Rattle.std.proofs.Common.{w64}
+use Rattle.std.proofs.lemmas.Int.{to_z-of_z}
 use Rattle.zoneinfo64.proofs.zone.Zone.for_timestamp.Goals as goal
 
 pub returns : goal.returns
-returns c = rw c.data_of.ensures (λ fixed. sym (plain-offset_at (plain_data c.data_of.result.now) fixed.no_table fixed.no_rule c.args.seconds_since_epoch))
+returns c =
+    let second = to_z-of_z w64 c.args.seconds_since_epoch c.ranges.seconds_since_epoch in
+    rw c.data_of.ensures (rw second at c.for_timestamp.ensures)

@@ -1,0 +1,11 @@
+use Rattle.std.proofs.Common.{arith, to_z, of_z, w64, ◌+ℤ◌, ◌*ℤ◌, pos}
+use Rattle.civil.proofs.SignedLemmas.{signed_casts}
+use Rattle.civil.proofs.CalendarCycle.{year_in_cycle}
+use Rattle.civil.proofs.calendar.year_near.Goals as goal
+
+pub returns : goal.returns
+returns c =
+    let years = c.years_in_cycle.ensures in
+    let q = c.cycles-cycles.result.0 in
+    let n = c.years_in_cycle.result in
+    year_in_cycle c.args.day q _ n c.cycles-cycles.result.1 (omega (arith, signed_casts)) (omega (arith, signed_casts)) years.bound years.begun years.not_over

@@ -1,0 +1,17 @@
+mod GrammarExamples
+pub mod Answered
+pub mod Digits
+mod MeaningExamples
+pub mod OneMeaning
+pub mod PlainMeaning
+pub mod PlainWalls
+pub mod PlainReading
+pub mod SomeMeaning
+pub mod SoundDate
+pub mod SoundParts
+pub mod SoundSteps
+pub mod SoundTime
+pub mod Stretches
+pub mod Tail
+pub mod TokenPlaces
+pub mod WordLemmas

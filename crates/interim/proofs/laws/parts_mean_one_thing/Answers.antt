@@ -1,0 +1,5 @@
+use Rattle.interim.proofs.OneMeaning.{means_once}
+use Rattle.interim.proofs.laws.parts_mean_one_thing.Goals as goal
+
+pub returns : goal.returns
+returns c = record { once = means_once }

@@ -1,0 +1,5 @@
+use Rattle.interim.proofs.SomeMeaning.{something}
+use Rattle.interim.proofs.laws.parts_mean_something.Goals as goal
+
+pub returns : goal.returns
+returns c = something

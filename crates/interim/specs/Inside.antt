@@ -1,0 +1,3 @@
+-- What serves private contracts alone: no reader needs it to know how a phrase is read, or what it means.
+pub mod Orders
+pub mod Seen

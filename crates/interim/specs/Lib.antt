@@ -1,0 +1,15 @@
+pub mod DatePart
+pub mod Grammar
+pub mod Inside
+pub mod Intervals
+pub mod Laws
+pub mod Meaning
+pub mod MeaningLaws
+pub mod Parts
+pub mod PlainForm
+pub mod Refusal
+pub mod Steps
+pub mod Texts
+pub mod TimePart
+pub mod Tokens
+pub mod Words

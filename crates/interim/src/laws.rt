@@ -1,0 +1,52 @@
+//! What holds of the definitions of tokens, parts and meanings.
+ghost use Rattle.interim.specs.MeaningLaws.{OneMeaning, PlainFormsAreInside, PlainFormsMean, SomeMeaning, SoundMeaning};
+ghost use Rattle.interim.specs.Laws.{TokensAreSound, PartsAreSound, TimesAreSound, PlainFormsAreRead};
+
+use zoned::Civil;
+
+/// The tokens of a phrase stand in order and inside it, and a number is below 10,000.
+pub fn tokens_are_sound()
+    ensures { TokensAreSound }
+{}
+
+/// The parts of a phrase have small numbers, and one without a date has a time. A fault names a token inside the
+/// phrase, or its end, or is `MissingDate`.
+pub fn parts_are_sound()
+    ensures { PartsAreSound }
+{}
+
+/// The same of a time part alone.
+pub fn times_are_sound()
+    ensures { TimesAreSound }
+{}
+
+/// A phrase of the plain form is read as its date and its clock time, with no written offset and no fraction.
+pub fn plain_forms_are_read()
+    ensures { PlainFormsAreRead }
+{}
+
+/// In a zone that tells an offset at each second, the parts of a phrase mean one moment, or they have no meaning, and never
+/// both.
+pub fn parts_mean_one_thing()
+    ensures { OneMeaning }
+{}
+
+/// In a zone that places each wall second somewhere, the parts of a phrase mean a moment, or they have no meaning.
+pub fn parts_mean_something()
+    ensures { SomeMeaning }
+{}
+
+/// What a call over a sound zone's moments answers is the meaning in a zone with its offsets.
+pub fn sound_zones_mean<Tz: Civil>()
+    ensures { (zone : Tz) → SoundMeaning (Tz.sound zone) (Tz.off zone) }
+{}
+
+/// A phrase of the plain form means the wall second that it names, as the zone places it, without a fraction.
+pub fn plain_forms_mean()
+    ensures { PlainFormsMean }
+{}
+
+/// The wall second of a phrase of the plain form lies inside the calendar, by more than a day.
+pub fn plain_forms_are_inside()
+    ensures { PlainFormsAreInside }
+{}

@@ -1,0 +1,11 @@
+-- How two formatters tell distances.
+use Rattle.tongues.specs.Speech.{Speech}
+use Rattle.timeago.specs.Formatters.{settings_of, language_of}
+use Rattle.timeago.specs.declared.formatter.Formatter.{Formatter}
+use Rattle.tell.specs.Voices.{Voice, Voices}
+
+abbrev pub voice_by : {L : Type 0} → (L → Speech) → Formatter L → Voice
+voice_by speech f = record { speech = speech (language_of f); settings = settings_of f }
+
+abbrev pub voices_by : {L : Type 0} → (L → Speech) → Formatter L → Formatter L → Voices
+voices_by speech past ahead = record { past = voice_by speech past; ahead = voice_by speech ahead }

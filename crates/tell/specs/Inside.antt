@@ -1,0 +1,7 @@
+-- What serves private contracts alone: no reader needs it to know what the program does.
+pub mod Engines
+pub mod FieldsView
+pub mod LawsBelow
+pub mod MomentView
+pub mod ReplyParts
+pub mod Tellers

@@ -1,0 +1,12 @@
+-- The laws of phrases and zones that the answer to a line stands on.
+use Rattle.timeline.specs.Promises.{OffsetsAreSmall}
+use Rattle.zoneinfo64.specs.Promises.{ZonesPlaceAlike}
+use Rattle.interim.specs.Laws.{PlainFormsAreRead}
+use Rattle.interim.specs.MeaningLaws.{PlainFormsAreInside, PlainFormsMean, SoundMeaning}
+
+pub record LawsBelow : Type 0 where
+  pub read : PlainFormsAreRead
+  pub means : PlainFormsMean
+  pub inside : PlainFormsAreInside
+  pub small : OffsetsAreSmall
+  pub alike : ZonesPlaceAlike

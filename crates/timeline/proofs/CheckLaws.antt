@@ -1,0 +1,111 @@
+-- The laws of a zone, from what its checker tests.
+use Rattle.std.proofs.Common.{◌≡◌, ℕ, ◌+◌, ◌<◌, ◌≤◌, nat_lt, nat_le, Bool, List, length, slice_get, Option, Some, Ok, add-one, refl, sym, ap, subst, ◌∙◌, ℤ, ◌+ℤ◌, arith}
+use Rattle.std.specs.Int.{int_min, int_max}
+use Rattle.std.proofs.lemmas.Int.{ints, clamps}
+use Rattle.std.proofs.lemmas.Option.{slice_get_within}
+use Rattle.timeline.specs.declared.offset.Offset.{Offset}
+use Rattle.timeline.specs.declared.offset.Transition.{Transition}
+use Rattle.timeline.specs.declared.fault.ZoneFault.{ZoneFault}
+use Rattle.timeline.specs.declared.check.Walls.{Walls}
+use Rattle.timeline.specs.Timeline.{offset_of}
+use Rattle.timeline.specs.Fault.{TellsLeast}
+use Rattle.timeline.proofs.LeastFaults.{Told, tells-same}
+use Rattle.timeline.specs.Laws.{Step, IsSmall, IsNear, IsWalled, EndsBefore, LiesIn}
+use Rattle.timeline.specs.CheckSteps.{walls, AreNear, AreWalled, EndBefore, LieIn, EntryKeeps, KeepsAt, TableKeeps, table_before, table_walls, walls_before}
+
+-- walls by their parts
+pub walls_are : (s : Step) (a b c : ℤ) → a ≡ s.since → b ≡ s.since +ℤ int_min s.before s.after → c ≡ s.since +ℤ int_max s.before s.after
+    → let w : Walls = record { since = a; earliest = b; latest = c } in w ≡ walls s
+walls_are s a b c d e f = ap (λ x. made x b c) d ∙ ap (λ x. made s.since x c) e ∙ ap (λ x. made s.since (s.since +ℤ int_min s.before s.after) x) f
+  where
+    made : ℤ → ℤ → ℤ → Walls
+    made a b c = record { since = a; earliest = b; latest = c }
+
+-- both walls, or the later and the earlier one
+pub near-there : (a b : Step) → IsNear a b → AreNear (walls a) (walls b)
+near-there a b h = record { to_second = omega (arith, ints, clamps, h.old, h.new); from_second = omega (arith, ints, clamps, h.to_old, h.to_new) }
+
+pub near-back : (a b : Step) → AreNear (walls a) (walls b) → IsNear a b
+near-back a b h = record {
+  old = omega (arith, ints, clamps, h.to_second);
+  new = omega (arith, ints, clamps, h.to_second);
+  to_old = omega (arith, ints, clamps, h.from_second);
+  to_new = omega (arith, ints, clamps, h.from_second);
+}
+
+pub walled-there : (a b : Step) → IsWalled a b → AreWalled (walls a) (walls b)
+walled-there a b h = omega (arith, ints, clamps, h.old_old, h.old_new, h.new_old, h.new_new)
+
+pub walled-back : (a b : Step) → AreWalled (walls a) (walls b) → IsWalled a b
+walled-back a b h = record {
+  old_old = omega (arith, ints, clamps, h);
+  old_new = omega (arith, ints, clamps, h);
+  new_old = omega (arith, ints, clamps, h);
+  new_new = omega (arith, ints, clamps, h);
+}
+
+pub ends-there : (limit : ℤ) (s : Step) → EndsBefore limit s → EndBefore limit (walls s)
+ends-there limit s h = record { since = h.since; latest = omega (arith, ints, clamps, h.old, h.new) }
+
+pub ends-back : (limit : ℤ) (s : Step) → EndBefore limit (walls s) → EndsBefore limit s
+ends-back limit s h = record { since = h.since; old = omega (arith, ints, clamps, h.latest); new = omega (arith, ints, clamps, h.latest) }
+
+pub lies-there : (low high : ℤ) (s : Step) → LiesIn low high s → LieIn low high (walls s)
+lies-there low high s h = (
+  record { since = h.from; earliest = omega (arith, ints, clamps, h.old_from, h.new_from) },
+  record { since = h.to; latest = omega (arith, ints, clamps, h.old_to, h.new_to) },
+)
+
+pub lies-back : (low high : ℤ) (s : Step) → LieIn low high (walls s) → LiesIn low high s
+lies-back low high s h = record {
+  from = h.0.since;
+  to = h.1.since;
+  old_from = omega (arith, ints, clamps, h.0.earliest);
+  old_to = omega (arith, ints, clamps, h.1.latest);
+  new_from = omega (arith, ints, clamps, h.0.earliest);
+  new_to = omega (arith, ints, clamps, h.1.latest);
+}
+
+-- ---- the table
+
+injective : {A : Type 0} (x y : A) → Some x ≡ Some y → x ≡ y
+injective x y e = cc
+
+-- what was tested at the nth entry
+pub entry_told : (before_all : Offset) (table : List Transition) (early late n : ℕ) (limit : Option ℤ) (entry : Transition) (e l : Bool) (previous : Option Walls) (w : Walls) (after : ℤ) (r : Told)
+    → slice_get table n ≡ Some entry → e ≡ nat_lt n early → l ≡ nat_le (length table) (n + late) → previous ≡ walls_before before_all table n → w ≡ table_walls before_all table n entry → after ≡ entry.offset
+    → TellsLeast (EntryKeeps e l previous w after limit) r → TellsLeast (λ f. KeepsAt before_all table early late limit f n) r
+entry_told before_all table early late n limit entry e l previous w after r get is_early is_late before is_walls is_after h =
+    let K : Bool → Bool → Option Walls → Walls → ℤ → ZoneFault → Type 0 = λ e l p w a f. EntryKeeps e l p w a limit f in
+    let P1 : Bool → Type 0 = λ x. TellsLeast (EntryKeeps x l previous w after limit) r in
+    let P2 : Bool → Type 0 = λ x. TellsLeast (EntryKeeps (nat_lt n early) x previous w after limit) r in
+    let P3 : Option Walls → Type 0 = λ x. TellsLeast (EntryKeeps (nat_lt n early) (nat_le (length table) (n + late)) x w after limit) r in
+    let P4 : Walls → Type 0 = λ x. TellsLeast (EntryKeeps (nat_lt n early) (nat_le (length table) (n + late)) (walls_before before_all table n) x after limit) r in
+    let P5 : ℤ → Type 0 = λ x. TellsLeast (EntryKeeps (nat_lt n early) (nat_le (length table) (n + late)) (walls_before before_all table n) (table_walls before_all table n entry) x limit) r in
+    let told = subst P5 is_after (subst P4 is_walls (subst P3 before (subst P2 is_late (subst P1 is_early h)))) in
+    tells-same (EntryKeeps (nat_lt n early) (nat_le (length table) (n + late)) (walls_before before_all table n) (table_walls before_all table n entry) entry.offset limit)
+    (λ f. KeepsAt before_all table early late limit f n) r
+    (λ f kept other got. let Q : Transition → Type 0 = λ x. EntryKeeps (nat_lt n early) (nat_le (length table) (n + late)) (walls_before before_all table n) (table_walls before_all table n x) x.offset limit f in
+    subst Q (injective entry other (sym get ∙ got)) kept)
+    (λ f all. all entry get) told
+
+pub next_before : (before_all : Offset) (table : List Transition) (n : ℕ) (entry : Transition) → slice_get table n ≡ Some entry → offset_of entry ≡ table_before before_all table (n + 1)
+next_before before_all table n entry get = rw (add-one, get) refl
+
+pub next_walls : (before_all : Offset) (table : List Transition) (n : ℕ) (entry : Transition) (w : Walls) → slice_get table n ≡ Some entry → w ≡ table_walls before_all table n entry → Some w ≡ walls_before before_all table (n + 1)
+next_walls before_all table n entry w get is = rw (add-one, get) (ap Some is)
+
+-- the whole table
+pub table_told : (before_all : Offset) (table : List Transition) (early late n : ℕ) (limit : Option ℤ) (r : Told) → length table ≤ n
+    → TellsLeast (λ f. (m : ℕ) → m < n → KeepsAt before_all table early late limit f m) r → TellsLeast (TableKeeps before_all table early late limit) r
+table_told before_all table early late n limit r whole h =
+    tells-same (λ f. (m : ℕ) → m < n → KeepsAt before_all table early late limit f m) (TableKeeps before_all table early late limit) r
+    (λ f all m e get. let inside = slice_get_within table m e get in all m (omega (arith, inside)) e get)
+    (λ f all m less. all m) h
+
+-- before the first entry nothing is asked
+pub nothing_told : (K : ZoneFault → ℕ → Type 0) → TellsLeast (λ f. (m : ℕ) → m < 0 → K f m) (Ok tt)
+nothing_told K = λ f m less. absurd (omega (arith, less))
+
+pub small_moved : (a b : ℤ) → a ≡ b → IsSmall a → IsSmall b
+small_moved a b e h = let P : ℤ → Type 0 = IsSmall in subst P e h

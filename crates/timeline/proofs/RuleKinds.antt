@@ -1,0 +1,119 @@
+-- The dates of a rule depend on the year's first day and kind alone.
+use Rattle.std.proofs.Common.{◌≡◌, ℕ, zero, suc, Bool, true, false, cond, refl, sym, ap, ◌∙◌, ℤ, pos, ◌+ℤ◌, ◌-ℤ◌, ◌*ℤ◌, arith}
+use Rattle.std.specs.Prelude.{unsigned_abs, int_lt}
+use Rattle.std.specs.Ordering.{int_eq}
+use Rattle.std.proofs.lemmas.Int.{ints}
+use Rattle.civil.specs.Calendar.{year_start, days_of_months, weekday_of, year_kind, example_year, year_second}
+use Rattle.civil.proofs.CalendarCycle.{year_start-400}
+use Rattle.civil.proofs.YearKinds.{weekday_of-later, same_kind, days_of_months-leap, kind_below, kind_of_example, year_kind-400}
+use Rattle.timeline.specs.declared.offset.Transition.{Transition}
+use Rattle.timeline.specs.Zone.{DateRule, PlainRule}
+use Rattle.timeline.specs.Rule.{month_start, code_weekday, anchor, first_on, last_on, rule_date, rule_second, start_entry, end_entry, start_is_first, first_entry, second_entry}
+use Rattle.timeline.specs.Kinds.{place_in_kind}
+use Rattle.timeline.specs.Promises.{IsLater}
+
+-- two choices made alike, between numbers that are d apart
+apart_choice : (p q : Bool) (x y u v d : ℤ) → p ≡ q → x ≡ u +ℤ d → y ≡ v +ℤ d → cond p x y ≡ cond q u v +ℤ d
+apart_choice true true x y u v d e f g = f
+apart_choice true false x y u v d e f g = cc
+apart_choice false true x y u v d e f g = cc
+apart_choice false false x y u v d e f g = g
+
+-- from days with one weekday the first day with a weekday is as far
+first_on-same : (n : ℕ) (w a b : ℤ) → weekday_of a ≡ weekday_of b → first_on n w b ≡ first_on n w a +ℤ (b -ℤ a)
+unfolding first_on
+first_on-same zero w a b same = omega (arith, ints)
+first_on-same (suc n) w a b same =
+    let next = first_on-same n w (a +ℤ pos 1) (b +ℤ pos 1) (weekday_of-later a b (pos 1) same) in
+    apart_choice (int_eq (weekday_of b) w) (int_eq (weekday_of a) w) _ _ _ _ _ (ap (λ v. int_eq v w) (sym same)) (omega (arith, ints)) (omega (arith, ints, next))
+
+-- and so is the last one up to them
+last_on-same : (n : ℕ) (w a b : ℤ) → weekday_of a ≡ weekday_of b → last_on n w b ≡ last_on n w a +ℤ (b -ℤ a)
+unfolding last_on
+last_on-same zero w a b same = omega (arith, ints)
+last_on-same (suc n) w a b same =
+    let next = last_on-same n w (a -ℤ pos 1) (b -ℤ pos 1) (weekday_of-later a b (pos 0 -ℤ pos 1) same) in
+    apart_choice (int_eq (weekday_of b) w) (int_eq (weekday_of a) w) _ _ _ _ _ (ap (λ v. int_eq v w) (sym same)) (omega (arith, ints)) (omega (arith, ints, next))
+
+-- places in two years of one kind: they are as far apart as the years' first days, and have one weekday
+record SamePlace (y z a b : ℤ) : Type 0 where
+  apart : b ≡ a +ℤ (year_start z -ℤ year_start y)
+  weekday : weekday_of a ≡ weekday_of b
+
+month_place : (y z : ℤ) (m : ℕ) → year_kind y ≡ year_kind z → SamePlace y z (month_start y m) (month_start z m)
+month_place y z m same =
+    let kind = same_kind y z same in
+    let months = days_of_months-leap y z kind.0 m in
+    record {
+      apart = omega (arith, ints, months);
+      weekday = weekday_of-later (year_start y) (year_start z) (pos (days_of_months y m)) kind.1 ∙ ap (λ n. weekday_of (year_start z +ℤ pos n)) months;
+    }
+
+anchor_place : (r : DateRule) (y z : ℤ) → year_kind y ≡ year_kind z → SamePlace y z (anchor r y) (anchor r z)
+anchor_place r y z same =
+    let month = month_place y z r.month same in
+    let left : month_start y r.month +ℤ (pos (unsigned_abs r.day) -ℤ pos 1) ≡ anchor r y = omega (arith, ints) in
+    let right : month_start z r.month +ℤ (pos (unsigned_abs r.day) -ℤ pos 1) ≡ anchor r z = omega (arith, ints) in
+    record {
+      apart = omega (arith, ints, month.apart);
+      weekday = sym (ap weekday_of left) ∙ weekday_of-later _ _ (pos (unsigned_abs r.day) -ℤ pos 1) month.weekday ∙ ap weekday_of right;
+    }
+
+-- the dates in two years of one kind are as far apart as the years
+pub rule_date-same : (r : DateRule) (y z : ℤ) → year_kind y ≡ year_kind z → rule_date r z ≡ rule_date r y +ℤ (year_start z -ℤ year_start y)
+unfolding rule_date
+rule_date-same r y z same =
+    let month = month_place y z r.month same in
+    let day = anchor_place r y z same in
+    let w = code_weekday r.code in
+    apart_choice (int_eq r.code (pos 0)) (int_eq r.code (pos 0)) _ _ _ _ _ refl day.apart
+    (apart_choice (int_lt (pos 0) r.code) (int_lt (pos 0) r.code) _ _ _ _ _ refl (omega (arith, ints, first_on-same 6 w (month_start y r.month) (month_start z r.month) month.weekday, month.apart))
+    (apart_choice (int_lt (pos 0) r.day) (int_lt (pos 0) r.day) _ _ _ _ _ refl (omega (arith, ints, first_on-same 6 w (anchor r y) (anchor r z) day.weekday, day.apart)) (omega (arith, ints, last_on-same 6 w (anchor r y) (anchor r z) day.weekday, day.apart))))
+
+-- the equation of the definition
+pub place_in_kind-is : (r : DateRule) (k : ℕ) → place_in_kind r k ≡ rule_date r (example_year k) -ℤ year_start (example_year k)
+unfolding place_in_kind
+place_in_kind-is r k = refl
+
+-- the date of a year is its first day and the place in its kind
+pub rule_date-place : (r : DateRule) (y : ℤ) → rule_date r y ≡ year_start y +ℤ place_in_kind r (year_kind y)
+rule_date-place r y =
+    let same = rule_date-same r (example_year (year_kind y)) y (kind_of_example (year_kind y) (kind_below y)) in
+    omega (arith, ints, same, place_in_kind-is r (year_kind y))
+
+-- ---- transitions
+
+rule_second-same : (r : DateRule) (before raw y z : ℤ) → year_kind y ≡ year_kind z → rule_second r before raw z ≡ rule_second r before raw y +ℤ (year_second z -ℤ year_second y)
+unfolding rule_second
+rule_second-same r before raw y z same = omega (arith, ints, rule_date-same r y z same)
+
+choice : (b : Bool) (s : ℤ) (e f g h : Transition) → IsLater s e g → IsLater s f h → IsLater s (cond b e f) (cond b g h)
+choice true s e f g h p q = p
+choice false s e f g h p q = q
+
+start-same : (r : PlainRule) (y z : ℤ) → year_kind y ≡ year_kind z → IsLater (year_second z -ℤ year_second y) (start_entry r y) (start_entry r z)
+start-same r y z same = record { since = rule_second-same r.start r.raw r.raw y z same; offset = refl; rule_applies = refl }
+
+end-same : (r : PlainRule) (y z : ℤ) → year_kind y ≡ year_kind z → IsLater (year_second z -ℤ year_second y) (end_entry r y) (end_entry r z)
+end-same r y z same = record { since = rule_second-same r.end (r.raw +ℤ r.extra) r.raw y z same; offset = refl; rule_applies = refl }
+
+-- the transitions of two years of one kind are as far apart as the years
+pub first_entry-same : (r : PlainRule) (y z : ℤ) → year_kind y ≡ year_kind z → IsLater (year_second z -ℤ year_second y) (first_entry r y) (first_entry r z)
+first_entry-same r y z same = choice (start_is_first r) _ _ _ _ _ (start-same r y z same) (end-same r y z same)
+
+pub second_entry-same : (r : PlainRule) (y z : ℤ) → year_kind y ≡ year_kind z → IsLater (year_second z -ℤ year_second y) (second_entry r y) (second_entry r z)
+second_entry-same r y z same = choice (start_is_first r) _ _ _ _ _ (end-same r y z same) (start-same r y z same)
+
+-- 400 years are 146,097 days
+later_400 : (y : ℤ) (e f : Transition) → IsLater (year_second (y +ℤ pos 400) -ℤ year_second y) e f → IsLater (pos 86400 *ℤ pos 146097) e f
+later_400 y e f is = record {
+  since = omega (arith, ints, is.since, year_start-400 y);
+  offset = is.offset;
+  rule_applies = is.rule_applies;
+}
+
+pub first_entry-400 : (r : PlainRule) (y : ℤ) → IsLater (pos 86400 *ℤ pos 146097) (first_entry r y) (first_entry r (y +ℤ pos 400))
+first_entry-400 r y = later_400 y _ _ (first_entry-same r y (y +ℤ pos 400) (sym (year_kind-400 y)))
+
+pub second_entry-400 : (r : PlainRule) (y : ℤ) → IsLater (pos 86400 *ℤ pos 146097) (second_entry r y) (second_entry r (y +ℤ pos 400))
+second_entry-400 r y = later_400 y _ _ (second_entry-same r y (y +ℤ pos 400) (sym (year_kind-400 y)))

@@ -1,0 +1,6 @@
+use Rattle.std.proofs.Common.{arith}
+use Rattle.civil.proofs.SignedLemmas.{signed_casts}
+use Rattle.timeline.proofs.rule.second_in.Goals as goal
+
+pub returns : goal.returns
+returns c = omega (arith, signed_casts)

@@ -1,0 +1,48 @@
+-- The laws by their numbers, and the least of those that are broken (docs/ZONES.md, "Laws").
+use Rattle.std.specs.Prelude.{◌≡◌, ℕ, ◌<◌, nat_lt, if◌then◌else◌, Result, Ok, Err}
+use Rattle.timeline.specs.declared.fault.ZoneFault.{ZoneFault}
+use Rattle.timeline.specs.declared.fault.ZoneFault.TheVariants.{Parts, Order, Size, Near, Walls, Seam, Before, Year}
+use Rattle.timeline.specs.Zone.{PlainZone}
+use Rattle.timeline.specs.Laws.{KeepsParts, KeepsOrder, KeepsSize, KeepsNear, KeepsWalls, KeepsSeam, KeepsBefore, KeepsYear}
+
+abbrev pub fault_number : ZoneFault → ℕ
+fault_number Parts = 1
+fault_number Order = 2
+fault_number Size = 3
+fault_number Near = 4
+fault_number Walls = 5
+fault_number Seam = 6
+fault_number Before = 7
+fault_number Year = 8
+
+-- the zone keeps the law
+abbrev pub Keeps : PlainZone → ZoneFault → Type 0
+Keeps z Parts = KeepsParts z
+Keeps z Order = KeepsOrder z
+Keeps z Size = KeepsSize z
+Keeps z Near = KeepsNear z
+Keeps z Walls = KeepsWalls z
+Keeps z Seam = KeepsSeam z
+Keeps z Before = KeepsBefore z
+Keeps z Year = KeepsYear z
+
+-- the zone keeps the law of that number
+abbrev pub KeepsLaw : ℕ → PlainZone → Type 0
+KeepsLaw k z = (f : ZoneFault) → fault_number f ≡ k → Keeps z f
+
+-- the law is broken, and those before it are kept
+pub record IsLeastBroken (z : PlainZone) (f : ZoneFault) : Type 0 where
+  pub broken : Keeps z f → ⊥
+  pub others : (g : ZoneFault) → fault_number g < fault_number f → Keeps z g
+
+-- ---- steps of the checker
+
+-- all are kept, or the one that is told is the least that is not
+abbrev pub TellsLeast : (ZoneFault → Type 0) → Result (Unit {0}) ZoneFault → Type 0
+TellsLeast K (Ok x) = (f : ZoneFault) → K f
+TellsLeast K (Err f) = (K f → ⊥) × ((g : ZoneFault) → fault_number g < fault_number f → K g)
+
+abbrev pub least_of : Result (Unit {0}) ZoneFault → Result (Unit {0}) ZoneFault → Result (Unit {0}) ZoneFault
+least_of (Ok x) other = other
+least_of (Err f) (Ok x) = Err f
+least_of (Err f) (Err g) = if nat_lt (fault_number g) (fault_number f) then Err g else Err f

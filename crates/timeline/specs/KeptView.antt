@@ -1,0 +1,21 @@
+-- What a `YearRule` keeps, and what is true of it.
+use Rattle.std.specs.Prelude.{IsTrue, pos, negsuc, ◌+ℤ◌, ◌≤ℤ◌}
+use Rattle.timeline.specs.Zone.{fits_i32}
+use Rattle.timeline.specs.Kinds.{KeptRule}
+use Rattle.timeline.specs.declared.rule.YearRule.TheInside.{Inside}
+
+abbrev pub kept_view : Inside → KeptRule
+kept_view a = record {
+  start = a.start;
+  end = a.end;
+  extra = a.extra;
+  raw = a.raw;
+  start_is_first = a.start_is_first;
+  first_year = a.first_year;
+}
+
+-- its offsets fit 32 bits, and its first year 28
+pub record IsKept (k : KeptRule) : Type 0 where
+  pub sum : IsTrue (fits_i32 (k.raw +ℤ k.extra))
+  pub from_year : negsuc 134217727 ≤ℤ k.first_year
+  pub to_year : k.first_year ≤ℤ pos 134217727

@@ -1,0 +1,16 @@
+-- The plain rule of a `PlacedDates`, and what is true of it.
+use Rattle.std.specs.Prelude.{◌≡◌}
+use Rattle.timeline.specs.Zone.{RawRule}
+use Rattle.timeline.specs.Kinds.{places_of}
+use Rattle.timeline.specs.Ranges.{AreDatesInRange}
+use Rattle.timeline.specs.DateView.{plain_date, raw_of}
+use Rattle.timeline.specs.declared.dates.PlacedDates.TheInside.{Inside}
+
+abbrev pub raw_view : Inside → RawRule
+raw_view a = raw_of a.dates
+
+-- its numbers are in range, and its places are those of its dates
+pub record HasPlaces (a : Inside) : Type 0 where
+  pub in_range : AreDatesInRange (raw_of a.dates)
+  pub start : a.start ≡ places_of (plain_date a.dates.start)
+  pub end : a.end ≡ places_of (plain_date a.dates.end)

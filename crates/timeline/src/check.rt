@@ -1,0 +1,381 @@
+//! Whether a zone keeps the eight laws.
+ghost use Rattle.std.specs.Prelude.{◌≡◌, ◌+◌, ◌≤◌, ◌<◌, ◌↔◌, IsTrue, IfSome, Some, slice_get, nat_le, length, ℤ, pos, negsuc, ◌+ℤ◌, ◌-ℤ◌, ◌*ℤ◌, ◌<ℤ◌, ◌≤ℤ◌};
+ghost use Rattle.civil.specs.Calendar.{year_start, year_second, example_year};
+ghost use Rattle.std.specs.Int.{int_div_euclid};
+ghost use Rattle.timeline.specs.Zone.{PlainRule};
+ghost use Rattle.timeline.specs.Rule.{second_entry};
+ghost use Rattle.timeline.specs.Timeline.{offset_of};
+ghost use Rattle.timeline.specs.Kinds.{kept_rule};
+ghost use Rattle.timeline.specs.Laws.{IsSmall, step};
+ghost use Rattle.timeline.specs.Fault.{TellsLeast, Keeps};
+ghost use Rattle.timeline.specs.CheckSteps.{walls, AreNear, AreWalled, EndBefore, BeginFrom, LieIn, InPart, EntryKeeps, TableKeeps, table_before, PairKeeps, YearKeeps, YearsKeep, RuleKeeps, SizeKept};
+
+use crate::data::ZoneData;
+use crate::dates::ZoneRule;
+use crate::fault::{ZoneFault, least_of};
+use crate::offset::{Offset, Transition};
+use crate::rule::YearRule;
+use civil::days_before_year;
+use std::marker::Brand;
+use std::sync::ledger::{Blank, Ledger};
+use steps::Steps;
+
+/// A transition's second, and the earlier and the later of its walls: its second plus the offset before it, and its
+/// second plus its own. In 128 bits no sum wraps.
+#[derive(Clone, Copy)]
+pub struct Walls {
+    since: i128,
+    earliest: i128,
+    latest: i128,
+}
+
+fn walls_of(since: i64, before: i32, after: i32) -> Walls
+    ensures { result ≡ walls (record { since = since; before = before; after = after }) }
+{
+    let second = since as i128;
+    Walls {
+        since: second,
+        earliest: second + before.min(after) as i128,
+        latest: second + before.max(after) as i128,
+    }
+}
+
+/// The walls of a transition with the offset before it.
+fn step_walls(before: &Offset, entry: &Transition) -> Walls
+    ensures { result ≡ walls (step before.now entry.now) }
+{
+    walls_of(entry.since, before.offset.seconds(), entry.offset.seconds())
+}
+
+fn are_near(first: Walls, second: Walls) -> bool
+    ensures { IsTrue result ↔ AreNear first second }
+{
+    first.latest <= second.since && first.since <= second.earliest
+}
+
+fn are_walled(first: Walls, second: Walls) -> bool
+    ensures { IsTrue result ↔ AreWalled first second }
+{
+    first.latest <= second.earliest
+}
+
+fn end_before(limit: i64, walls: Walls) -> bool
+    ensures { IsTrue result ↔ EndBefore limit walls }
+{
+    walls.since < limit as i128 && walls.latest <= limit as i128
+}
+
+fn begin_from(low: i64, walls: Walls) -> bool
+    ensures { IsTrue result ↔ BeginFrom low walls }
+{
+    low as i128 <= walls.since && low as i128 <= walls.earliest
+}
+
+fn lie_in(low: i64, high: i64, walls: Walls) -> bool
+    ensures { IsTrue result ↔ LieIn low high walls }
+{
+    begin_from(low, walls) && end_before(high, walls)
+}
+
+fn both_lie_in(low: i64, high: i64, first: Walls, second: Walls) -> bool
+    ensures { IsTrue result ↔ (LieIn low high first × LieIn low high second) }
+{
+    lie_in(low, high, first) && lie_in(low, high, second)
+}
+
+fn is_in_part(early: bool, late: bool, since: i128) -> bool
+    ensures { IsTrue result ↔ InPart early late since }
+{
+    (!early || since < -2_147_483_648) && (!late || since > 2_147_483_647)
+}
+
+/// Whether an offset is less than a day to either side.
+fn is_small(seconds: i32) -> bool
+    ensures { IsTrue result ↔ IsSmall seconds }
+{
+    -86_400 < seconds && seconds < 86_400
+}
+
+fn is_after(previous: Option<Walls>, walls: Walls) -> bool
+    ensures { IsTrue result ↔ IfSome previous (λ p. p.since <ℤ walls.since) }
+{
+    match previous {
+        Some(previous) => previous.since < walls.since,
+        None => true,
+    }
+}
+
+fn is_near(previous: Option<Walls>, walls: Walls) -> bool
+    ensures { IsTrue result ↔ IfSome previous (λ p. AreNear p walls) }
+{
+    match previous {
+        Some(previous) => are_near(previous, walls),
+        None => true,
+    }
+}
+
+fn is_walled(previous: Option<Walls>, walls: Walls) -> bool
+    ensures { IsTrue result ↔ IfSome previous (λ p. AreWalled p walls) }
+{
+    match previous {
+        Some(previous) => are_walled(previous, walls),
+        None => true,
+    }
+}
+
+fn is_before(limit: Option<i64>, walls: Walls) -> bool
+    ensures { IsTrue result ↔ IfSome limit (λ l. EndBefore l walls) }
+{
+    match limit {
+        Some(limit) => end_before(limit, walls),
+        None => true,
+    }
+}
+
+/// The least law that an entry of a table breaks, with the entry before it, and with the second that the table is to end
+/// before.
+fn entry_fault(
+    early: bool,
+    late: bool,
+    previous: Option<Walls>,
+    walls: Walls,
+    after: i32,
+    limit: Option<i64>,
+) -> Result<(), ZoneFault>
+    ensures { TellsLeast (EntryKeeps early late previous walls after limit) result }
+{
+    if !is_in_part(early, late, walls.since) {
+        return Err(ZoneFault::Parts);
+    }
+    if !is_after(previous, walls) {
+        return Err(ZoneFault::Order);
+    }
+    if !is_small(after) {
+        return Err(ZoneFault::Size);
+    }
+    if !is_near(previous, walls) {
+        return Err(ZoneFault::Near);
+    }
+    if !is_walled(previous, walls) {
+        return Err(ZoneFault::Walls);
+    }
+    if !is_before(limit, walls) {
+        return Err(ZoneFault::Seam);
+    }
+    Ok(())
+}
+
+/// Whether the nth entry of a table is one of the last ones.
+fn is_late(len: usize, n: usize, late: usize) -> bool
+    requires { n < len }
+    ensures { result ≡ nat_le len (n + late) }
+{
+    len - n <= late
+}
+
+/// The least law that a table breaks, with the second that it is to end before. Takes a step for each entry.
+fn table_fault<L: Ledger>(
+    zone: &ZoneData,
+    limit: Option<i64>,
+    steps: &mut Steps<L>,
+) -> Result<(), ZoneFault>
+    ensures { TellsLeast (TableKeeps zone.now.initial zone.now.table zone.now.early zone.now.late limit) result }
+{
+    let mut least = Ok(());
+    let mut before = zone.initial();
+    let mut previous = None;
+    let (len, early, late) = (zone.len(), zone.early(), zone.late());
+    for n in 0..len {
+        let entry = zone.entry_at(n, steps);
+        let after = entry.offset.seconds();
+        let walls = step_walls(&before, &entry);
+        let in_late = is_late(len, n, late);
+        let fault = entry_fault(n < early, in_late, previous, walls, after, limit);
+        least = least_of(least, fault);
+        before = offset_from(&entry);
+        previous = Some(walls);
+    }
+    least
+}
+
+/// The same; the steps go to the caller's ledger.
+fn table_fault_from<L: Ledger>(
+    zone: &ZoneData,
+    limit: Option<i64>,
+    blank: Blank,
+) -> Result<(), ZoneFault>
+    requires name { blank.name ≡ L.name }
+    requires parts { blank.parts ≡ L.parts }
+    requires some { 0 < L.parts }
+    ensures { TellsLeast (TableKeeps zone.now.initial zone.now.table zone.now.early zone.now.late limit) result }
+{
+    let mut steps = Steps::<L>::new(blank);
+    table_fault(zone, limit, &mut steps)
+}
+
+/// The same, where no step is counted.
+fn fault_of_table(zone: &ZoneData, limit: Option<i64>) -> Result<(), ZoneFault>
+    ensures { TellsLeast (TableKeeps zone.now.initial zone.now.table zone.now.early zone.now.late limit) result }
+{
+    table_fault_from::<Brand>(zone, limit, Blank::new(1))
+}
+
+/// The least law that the two transitions of a year break, with the year's first second and that of the next year.
+fn pair_fault(first: Walls, second: Walls, low: i64, high: i64) -> Result<(), ZoneFault>
+    ensures { TellsLeast (PairKeeps first second low high) result }
+{
+    if !are_near(first, second) {
+        return Err(ZoneFault::Near);
+    }
+    if !are_walled(first, second) {
+        return Err(ZoneFault::Walls);
+    }
+    if !both_lie_in(low, high, first, second) {
+        return Err(ZoneFault::Year);
+    }
+    Ok(())
+}
+
+/// The least law that a year of a rule breaks. Takes one step.
+fn year_fault<L: Ledger>(rule: &YearRule, year: i32, steps: &mut Steps<L>) -> Result<(), ZoneFault>
+    requires { year <ℤ pos 2147483647 }
+    ensures told { (r : PlainRule) → rule.now ≡ kept_rule r → TellsLeast (YearKeeps r year) result }
+    ensures ticks { steps.new ≡ steps.old + 1 }
+{
+    let (before, first, second) = rule.year_at(year, steps);
+    let between = offset_from(&first);
+    let low = first_second(year);
+    let high = first_second(year + 1);
+    pair_fault(
+        step_walls(&before, &first),
+        step_walls(&between, &second),
+        low,
+        high,
+    )
+}
+
+fn offset_from(entry: &Transition) -> Offset
+    ensures { result ≡ offset_of entry.now }
+{
+    Offset {
+        offset: entry.offset,
+        rule_applies: entry.rule_applies,
+    }
+}
+
+/// The first second of a year.
+fn first_second(year: i32) -> i64
+    ensures { result ≡ year_second year }
+{
+    86_400 * days_before_year(year)
+}
+
+// A year of each kind.
+const EXAMPLES: [u16; 14] = [
+    2001, 2002, 2003, 2009, 2010, 2005, 2006, 2024, 2008, 2020, 2004, 2016, 2000, 2012,
+];
+
+/// The first year from this one on that 400 divides.
+fn century_from(year: i32) -> i32
+    requires low { negsuc 134217727 ≤ℤ year }
+    requires high { year ≤ℤ pos 134217727 }
+    ensures { result ≡ pos 400 *ℤ int_div_euclid (year +ℤ pos 399) (pos 400) }
+{
+    (year + 399).div_euclid(400) * 400
+}
+
+/// The year of a kind among the 25 years from this one on, which 400 divides.
+fn sample_year(century: i32, kind: usize) -> i32
+    requires low { negsuc 200000000 ≤ℤ century }
+    requires high { century ≤ℤ pos 200000000 }
+    requires kind { kind < 14 }
+    ensures { result ≡ example_year kind +ℤ century -ℤ pos 2000 }
+{
+    century - 2000 + EXAMPLES[kind] as i32
+}
+
+/// The least law that a year of a rule breaks. All years of a kind break the same ones, so it looks at one of each.
+/// Takes 14 steps.
+fn years_fault<L: Ledger>(rule: &YearRule, steps: &mut Steps<L>) -> Result<(), ZoneFault>
+    ensures told { (r : PlainRule) → rule.now ≡ kept_rule r → TellsLeast (YearsKeep r) result }
+    ensures ticks { steps.new ≡ steps.old + 14 }
+{
+    let century = century_from(rule.first_year());
+    let mut least = Ok(());
+    for kind in 0..14 {
+        let fault = year_fault(rule, sample_year(century, kind), steps);
+        least = least_of(least, fault);
+    }
+    least
+}
+
+fn same_offset(first: Offset, second: Offset) -> bool
+    ensures { IsTrue result ↔ (first ≡ second) }
+{
+    first == second
+}
+
+fn are_small(first: i32, second: i32) -> bool
+    ensures { IsTrue result ↔ (IsSmall first × IsSmall second) }
+{
+    is_small(first) && is_small(second)
+}
+
+/// The least law that a rule breaks by its offsets, with what holds after the table. Takes a step at most.
+fn rule_fault<L: Ledger>(
+    rule: &YearRule,
+    last: Offset,
+    steps: &mut Steps<L>,
+) -> Result<(), ZoneFault>
+    ensures told { (r : PlainRule) → rule.now ≡ kept_rule r → TellsLeast (RuleKeeps r last) result }
+    ensures ticks { steps.new ≤ steps.old + 1 }
+{
+    let (raw, sum) = rule.offsets();
+    if !are_small(raw, sum) {
+        return Err(ZoneFault::Size);
+    }
+    let (before, _, _) = rule.year_at(rule.first_year(), steps);
+    if !same_offset(last, before) {
+        return Err(ZoneFault::Before);
+    }
+    Ok(())
+}
+
+fn initial_fault(initial: Offset) -> Result<(), ZoneFault>
+    ensures { TellsLeast (SizeKept initial) result }
+{
+    if is_small(initial.offset.seconds()) {
+        Ok(())
+    } else {
+        Err(ZoneFault::Size)
+    }
+}
+
+/// What holds after the table.
+fn last_offset(zone: &ZoneData) -> Offset
+    ensures { result ≡ table_before zone.now.initial zone.now.table (length zone.now.table) }
+{
+    if zone.len() == 0 {
+        zone.initial()
+    } else {
+        zone.offset_at(zone.len() - 1)
+    }
+}
+
+/// The least law that a zone breaks. Takes 15 steps at most; the table's steps are not counted.
+pub fn least_fault<L: Ledger>(zone: &ZoneData, steps: &mut Steps<L>) -> Result<(), ZoneFault>
+    ensures told { TellsLeast (Keeps zone.now) result }
+    ensures ticks { steps.new ≤ steps.old + 15 }
+{
+    let least = initial_fault(zone.initial());
+    match zone.rule() {
+        None => least_of(least, fault_of_table(zone, None)),
+        Some(rule) => {
+            let years = rule.years();
+            let limit = first_second(years.first_year());
+            let least = least_of(least, fault_of_table(zone, Some(limit)));
+            let least = least_of(least, rule_fault(years, last_offset(zone), steps));
+            least_of(least, years_fault(years, steps))
+        }
+    }
+}

@@ -1,0 +1,263 @@
+//! The dates of yearly rules, and the places of the days that they name.
+ghost use Rattle.std.specs.Prelude.{◌≡◌, ◌+◌, ◌<◌, ◌≤◌, if◌then◌else◌, ℤ, pos, negsuc, ◌+ℤ◌, ◌≤ℤ◌, Some, None, unsigned_abs};
+ghost use Rattle.civil.specs.Calendar.{year_start, year_kind, days_of_months, weekday_of};
+ghost use Rattle.timeline.specs.Zone.{DateRule, fits_i32, plain_rule};
+ghost use Rattle.timeline.specs.Rule.{first_on, last_on, start_is_first};
+ghost use Rattle.timeline.specs.Kinds.{place_in_kind, places_of, time_mode, kept_rule};
+ghost use Rattle.timeline.specs.DateView.{plain_date, raw_of};
+ghost use Rattle.timeline.specs.Ranges.{IsDateInRange, AreDatesInRange};
+
+use crate::rule::{KindDate, TimeMode, YearRule};
+use civil::days_before_month;
+use std::marker::Model;
+
+/// One of the two dates of a rule: its five numbers.
+#[derive(Clone, Copy)]
+pub struct RuleDate {
+    month: u32,
+    day: i32,
+    code: i32,
+    seconds: u32,
+    mode: u32,
+}
+
+/// The dates of a rule, with the extra offset that its start adds: its eleven numbers.
+#[derive(Clone, Copy)]
+pub struct RuleDates {
+    start: RuleDate,
+    end: RuleDate,
+    extra: i32,
+}
+
+/// A rule with the places of its dates in a year of each kind.
+#[derive(Drop)]
+pub struct PlacedDates {
+    dates: RuleDates,
+    start: [i16; 14],
+    end: [i16; 14],
+}
+
+impl Model for PlacedDates {
+    ghost use Rattle.timeline.specs.Zone.{RawRule};
+
+    ghost Value = { RawRule };
+
+    ghost use Rattle.timeline.specs.PlacedView.{raw_view, HasPlaces};
+
+    ghost view = { raw_view };
+
+    ghost invariant = { HasPlaces };
+}
+
+/// The rule of a zone: what tells its years, and its numbers as they were read, by which zones are compared.
+#[derive(Drop)]
+pub struct ZoneRule {
+    dates: RuleDates,
+    years: YearRule,
+}
+
+impl Model for ZoneRule {
+    ghost use Rattle.timeline.specs.Zone.{PlainRule};
+
+    ghost Value = { PlainRule };
+
+    ghost use Rattle.timeline.specs.ZoneRuleView.{rule_view, HasYears};
+
+    ghost view = { rule_view };
+
+    ghost invariant = { HasYears };
+}
+
+/// The days of a year of this kind before a month, which counts from 0.
+fn month_place(month: u32, kind: u8) -> u32
+    requires { month < 12 }
+    ensures value { (y : ℤ) → year_kind y ≡ kind → result ≡ days_of_months y month }
+    ensures few { result < 366 }
+{
+    let month = month as u8 + 1;
+    if kind < 7 {
+        // a common year
+        return days_before_month(2001, month) as u32;
+    }
+    days_before_month(2000, month) as u32
+}
+
+/// The weekday so many days after 1 January of a year of this kind, with Monday 0.
+fn weekday_at(place: u32, kind: u8) -> u32
+    requires { place < 1000 }
+    ensures value { (y : ℤ) → year_kind y ≡ kind → weekday_of (year_start y +ℤ pos place) ≡ pos result }
+    ensures few { result < 7 }
+{
+    (kind as u32 % 7 + place) % 7
+}
+
+/// The first place from this one on with a weekday.
+fn first_from(weekday: u32, from: u32, kind: u8) -> u32
+    requires weekday { weekday < 7 }
+    requires from { from < 1000 }
+    ensures value { (y : ℤ) → year_kind y ≡ kind → first_on 6 (pos weekday) (year_start y +ℤ pos from) ≡ year_start y +ℤ pos result }
+    ensures near { result ≤ from + 6 }
+{
+    from + (weekday + 7 - weekday_at(from, kind)) % 7
+}
+
+/// The last place up to this one with a weekday.
+fn last_to(weekday: u32, to: u32, kind: u8) -> i32
+    requires weekday { weekday < 7 }
+    requires to { to < 1000 }
+    ensures value { (y : ℤ) → year_kind y ≡ kind → last_on 6 (pos weekday) (year_start y +ℤ pos to) ≡ year_start y +ℤ result }
+    ensures low { negsuc 5 ≤ℤ result }
+    ensures high { result ≤ℤ pos to }
+{
+    to as i32 - ((weekday_at(to, kind) + 7 - weekday) % 7) as i32
+}
+
+/// The place of a date in a year of this kind.
+fn place(month: u32, day: i32, code: i32, kind: u8) -> i16
+    requires month { month < 12 }
+    requires some_day { 1 ≤ unsigned_abs day }
+    requires last_day { unsigned_abs day ≤ 31 }
+    requires kind { kind < 14 }
+    ensures { (r : DateRule) → r.month ≡ month → r.day ≡ day → r.code ≡ code → result ≡ place_in_kind r kind }
+{
+    let first = month_place(month, kind);
+    let anchor = first + day.unsigned_abs() - 1;
+    let weekday = (code.unsigned_abs() % 7 + 5) % 7;
+    if code == 0 {
+        anchor as i16
+    } else if code > 0 {
+        (first_from(weekday, first, kind) as i32 + 7 * (day - 1)) as i16
+    } else if day > 0 {
+        first_from(weekday, anchor, kind) as i16
+    } else {
+        last_to(weekday, anchor, kind) as i16
+    }
+}
+
+/// The places of a date in years of the 14 kinds.
+fn places(date: RuleDate) -> [i16; 14]
+    requires { IsDateInRange (plain_date date) }
+    ensures { result ≡ places_of (plain_date date) }
+{
+    let mut places = [0; 14];
+    for kind in 0..14 {
+        places[kind] = place(date.month, date.day, date.code, kind as u8);
+    }
+    places
+}
+
+impl RuleDate {
+    /// A date of these five numbers.
+    pub fn new(month: u32, day: i32, code: i32, seconds: u32, mode: u32) -> RuleDate
+        ensures { plain_date result ≡ record { month = month; day = day; code = code; seconds = seconds; mode = mode } }
+    {
+        RuleDate {
+            month,
+            day,
+            code,
+            seconds,
+            mode,
+        }
+    }
+}
+
+impl RuleDates {
+    /// The dates of a rule, with the extra offset that its start adds.
+    pub fn new(start: RuleDate, end: RuleDate, extra: i32) -> RuleDates
+        ensures { raw_of result ≡ record { start = plain_date start; end = plain_date end; extra = extra } }
+    {
+        RuleDates { start, end, extra }
+    }
+}
+
+impl PlacedDates {
+    /// The dates with their places.
+    pub fn new(dates: RuleDates) -> PlacedDates
+        requires { AreDatesInRange (raw_of dates) }
+        ensures { result ≡ raw_of dates }
+    {
+        PlacedDates {
+            dates,
+            start: places(dates.start),
+            end: places(dates.end),
+        }
+    }
+}
+
+fn mode(number: u32) -> TimeMode
+    ensures { result ≡ time_mode number }
+{
+    match number {
+        0 => TimeMode::Wall,
+        1 => TimeMode::Standard,
+        _ => TimeMode::Utc,
+    }
+}
+
+/// Whether the start is a year's first transition.
+fn start_is_first(dates: &RuleDates) -> bool
+    ensures { (raw first_year : ℤ) → result ≡ start_is_first (plain_rule (raw_of dates.now) raw first_year) }
+{
+    if dates.start.month == dates.end.month {
+        dates.start.day.unsigned_abs() <= dates.end.day.unsigned_abs()
+    } else {
+        dates.start.month < dates.end.month
+    }
+}
+
+impl ZoneRule {
+    /// A rule in a zone of that standard offset, from that year on; `None` where its offset leaves 32 bits.
+    pub fn from_dates(placed: &PlacedDates, raw: i32, first_year: i32) -> Option<ZoneRule>
+        requires low { negsuc 134217727 ≤ℤ first_year }
+        requires high { first_year ≤ℤ pos 134217727 }
+        ensures { result ≡ (if fits_i32 (raw +ℤ placed.now.extra) then Some (plain_rule placed.now raw first_year) else None) }
+    {
+        let dates = placed.dates;
+        raw.checked_add(dates.extra)?;
+        let start = KindDate::new(placed.start, dates.start.seconds, mode(dates.start.mode));
+        let end = KindDate::new(placed.end, dates.end.seconds, mode(dates.end.mode));
+        let first = start_is_first(&dates);
+        Some(ZoneRule {
+            dates,
+            years: YearRule::new(start, end, dates.extra, raw, first, first_year),
+        })
+    }
+
+    /// What tells its years.
+    pub fn years(&self) -> &YearRule
+        ensures { result.now ≡ kept_rule self.now }
+    {
+        &self.years
+    }
+}
+
+#[cfg(test)]
+mod tests {
+    use super::*;
+    use civil::{NaiveDate, days_before_year, year_kind};
+
+    #[test]
+    fn dates_have_places(rt: HostRuntime) {
+        // a rule's month, day and code, and the month and the day on which it falls
+        let rows: [(i32, u32, i32, i32, u32, u32); 8] = [
+            (2025, 7, 3, 7, 8, 16),
+            (2025, 2, 8, -1, 3, 9),
+            (2025, 10, 1, -1, 11, 2),
+            (2024, 2, -1, -1, 2, 25),
+            (2023, 1, 29, 0, 3, 1),
+            (2024, 1, 29, 0, 2, 29),
+            (2025, 8, 5, 1, 10, 5),
+            (2018, 0, -1, -2, 1, 1),
+        ];
+        for (year, month, day, code, month_of_year, day_of_month) in rows {
+            assert!(rt; month < 12 && day.unsigned_abs() >= 1 && day.unsigned_abs() <= 31);
+            let number = days_before_year(year) + place(month, day, code, year_kind(year)) as i64;
+            let date = NaiveDate::from_ymd_opt(year, month_of_year, day_of_month);
+            assert_eq!(rt;
+                Some(number),
+                date.map(|date| date.day_number()),
+                "{year} {month}"
+            );
+        }
+    }
+}

@@ -1,0 +1,18 @@
+//! A time zone in time: its transitions by a table and by a yearly rule, what holds at a second, and the laws of zones.
+#![tactic(auto)]
+
+mod check;
+mod data;
+mod dates;
+mod fault;
+pub mod laws;
+mod lookups;
+mod offset;
+mod rule;
+mod seconds;
+
+pub use data::ZoneData;
+pub use dates::{PlacedDates, RuleDate, RuleDates, ZoneRule};
+pub use fault::ZoneFault;
+pub use offset::{Offset, PossibleOffset, Transition, UtcOffset};
+pub use seconds::Seconds;

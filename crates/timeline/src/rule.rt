@@ -1,0 +1,238 @@
+//! The yearly rule of a zone, kept by kinds of year. Only `year_at` tells a year's transitions.
+ghost use Rattle.std.specs.Prelude.{◌≡◌, ◌+◌, ◌<◌, ℤ, pos, negsuc, ◌+ℤ◌, ◌-ℤ◌, ◌*ℤ◌, ◌<ℤ◌, ◌≤ℤ◌, if◌then◌else◌, not};
+ghost use Rattle.std.specs.Ordering.{int_eq};
+ghost use Rattle.civil.specs.Calendar.{year_start, year_kind};
+ghost use Rattle.timeline.specs.Zone.{fits_i32};
+ghost use Rattle.timeline.specs.Zone.{PlainRule};
+ghost use Rattle.timeline.specs.Rule.{first_entry, second_entry};
+ghost use Rattle.timeline.specs.Timeline.{offset_of};
+ghost use Rattle.timeline.specs.Kinds.{KeptRule, kept_rule, kind_second, taken_off, kept_start, kept_end};
+
+use crate::offset::{Offset, Transition, UtcOffset};
+use civil::{days_before_year, year_kind};
+use std::marker::Model;
+use std::sync::ledger::Ledger;
+use steps::Steps;
+
+/// What the seconds of the day of a transition are counted by.
+#[derive(Clone, Copy)]
+pub enum TimeMode {
+    /// What clocks show before it.
+    Wall,
+    /// Standard time.
+    Standard,
+    /// UTC.
+    Utc,
+}
+
+/// One of the two dates of a rule: its place in a year of each kind, counted in days from 1 January, and its time.
+#[derive(Clone, Copy)]
+pub struct KindDate {
+    places: [i16; 14],
+    seconds: u32,
+    mode: TimeMode,
+}
+
+/// A rule in a zone: its two dates, which of them is a year's first transition, the extra offset that its start adds, the
+/// zone's standard offset, and the first year in which it holds.
+#[derive(Drop)]
+pub struct YearRule {
+    start: KindDate,
+    end: KindDate,
+    extra: i32,
+    raw: i32,
+    start_is_first: bool,
+    first_year: i32,
+}
+
+impl Model for YearRule {
+    ghost use Rattle.timeline.specs.Kinds.{KeptRule};
+
+    ghost Value = { KeptRule };
+
+    ghost use Rattle.timeline.specs.KeptView.{kept_view, IsKept};
+
+    ghost view = { kept_view };
+
+    ghost invariant = { λ a. IsKept (kept_view a) };
+}
+
+impl TimeMode {
+    /// What a time of day is ahead of UTC, with the offset before it and the standard offset.
+    fn taken_off(self, before: i32, raw: i32) -> i32
+        ensures { result ≡ taken_off self before raw }
+    {
+        match self {
+            TimeMode::Wall => before,
+            TimeMode::Standard => raw,
+            TimeMode::Utc => 0,
+        }
+    }
+}
+
+/// The second of a time of day at a place of a year.
+fn second_in(start: i64, place: i16, seconds: u32, taken_off: i32) -> i64
+    requires low { negsuc 799999999999 ≤ℤ start }
+    requires high { start ≤ℤ pos 800000000000 }
+    ensures { result ≡ pos 86400 *ℤ (start +ℤ place) +ℤ pos seconds -ℤ taken_off }
+{
+    86_400 * (start + place as i64) + seconds as i64 - taken_off as i64
+}
+
+/// Whether an extra offset is any.
+fn is_some(extra: i32) -> bool
+    ensures { result ≡ not (int_eq extra (pos 0)) }
+{
+    extra != 0
+}
+
+fn transition(since: i64, offset: i32, rule_applies: bool) -> Transition
+    ensures { result ≡ record { since = since; offset = offset; rule_applies = rule_applies } }
+{
+    Transition {
+        since,
+        offset: UtcOffset::from_seconds(offset),
+        rule_applies,
+    }
+}
+
+/// The offset before the first of two transitions of a year, and both in their order.
+fn in_order(
+    start_is_first: bool,
+    start: Transition,
+    end: Transition,
+) -> (Offset, Transition, Transition)
+    ensures before { result.0 ≡ offset_of (if start_is_first then end else start) }
+    ensures first { result.1 ≡ (if start_is_first then start else end) }
+    ensures second { result.2 ≡ (if start_is_first then end else start) }
+{
+    let (offset, rule_applies) = if start_is_first {
+        (end.offset, end.rule_applies)
+    } else {
+        (start.offset, start.rule_applies)
+    };
+    let before = Offset {
+        offset,
+        rule_applies,
+    };
+    if start_is_first {
+        (before, start, end)
+    } else {
+        (before, end, start)
+    }
+}
+
+impl KindDate {
+    /// A date of these places.
+    pub fn new(places: [i16; 14], seconds: u32, mode: TimeMode) -> KindDate
+        ensures { result ≡ record { places = places; seconds = seconds; mode = mode } }
+    {
+        KindDate {
+            places,
+            seconds,
+            mode,
+        }
+    }
+
+    /// The second of the date in a year of that first day and kind.
+    fn second(&self, before: i32, raw: i32, start: i64, kind: u8) -> i64
+        requires kind { kind < 14 }
+        requires low { negsuc 799999999999 ≤ℤ start }
+        requires high { start ≤ℤ pos 800000000000 }
+        ensures { result ≡ kind_second self.now before raw start kind }
+    {
+        let taken = self.mode.taken_off(before, raw);
+        second_in(start, self.places[kind as usize], self.seconds, taken)
+    }
+}
+
+impl YearRule {
+    ghost use Rattle.timeline.specs.KeptView.{IsKept};
+
+    /// A rule of these parts.
+    pub fn new(
+        start: KindDate,
+        end: KindDate,
+        extra: i32,
+        raw: i32,
+        start_is_first: bool,
+        first_year: i32,
+    ) -> YearRule
+        requires { IsKept (record { start = start; end = end; extra = extra; raw = raw; start_is_first = start_is_first; first_year = first_year }) }
+        ensures { result ≡ record { start = start; end = end; extra = extra; raw = raw; start_is_first = start_is_first; first_year = first_year } }
+    {
+        YearRule {
+            start,
+            end,
+            extra,
+            raw,
+            start_is_first,
+            first_year,
+        }
+    }
+
+    /// The standard offset of the zone, and the offset that its start brings.
+    pub fn offsets(&self) -> (i32, i32)
+        ensures raw { result.0 ≡ self.now.raw }
+        ensures sum { result.1 ≡ self.now.raw +ℤ self.now.extra }
+    {
+        (self.raw, self.raw + self.extra)
+    }
+
+    /// The first year of the rule, from -134,217,728 to 134,217,727.
+    pub fn first_year(&self) -> i32
+        ensures value { result ≡ self.now.first_year }
+        ensures low { negsuc 134217727 ≤ℤ result }
+        ensures high { result ≤ℤ pos 134217727 }
+    {
+        self.first_year
+    }
+
+    /// The start in a year of that first day and kind.
+    fn start_in(&self, day: i64, kind: u8) -> Transition
+        requires kind { kind < 14 }
+        requires low { negsuc 799999999999 ≤ℤ day }
+        requires high { day ≤ℤ pos 800000000000 }
+        ensures { result ≡ kept_start self.now day kind }
+    {
+        let (raw, sum) = self.offsets();
+        transition(
+            self.start.second(raw, raw, day, kind),
+            sum,
+            is_some(self.extra),
+        )
+    }
+
+    /// The end in a year of that first day and kind.
+    fn end_in(&self, day: i64, kind: u8) -> Transition
+        requires kind { kind < 14 }
+        requires low { negsuc 799999999999 ≤ℤ day }
+        requires high { day ≤ℤ pos 800000000000 }
+        ensures { result ≡ kept_end self.now day kind }
+    {
+        let (raw, sum) = self.offsets();
+        transition(self.end.second(sum, raw, day, kind), raw, false)
+    }
+
+    /// The offset before a year's first transition, and the year's two transitions. Takes one step.
+    pub fn year_at<L: Ledger>(
+        &self,
+        year: i32,
+        steps: &mut Steps<L>,
+    ) -> (Offset, Transition, Transition)
+        requires { year <ℤ pos 2147483647 }
+        ensures before { (r : PlainRule) → self.now ≡ kept_rule r → result.0 ≡ offset_of (second_entry r year) }
+        ensures first { (r : PlainRule) → self.now ≡ kept_rule r → result.1 ≡ first_entry r year }
+        ensures second { (r : PlainRule) → self.now ≡ kept_rule r → result.2 ≡ second_entry r year }
+        ensures ticks { steps.new ≡ steps.old + 1 }
+    {
+        steps.tick();
+        let day = days_before_year(year);
+        let kind = year_kind(year);
+        in_order(
+            self.start_is_first,
+            self.start_in(day, kind),
+            self.end_in(day, kind),
+        )
+    }
+}

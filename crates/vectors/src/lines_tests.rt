@@ -1,0 +1,441 @@
+//! Lines of the command `at` over the sample bundles, and the answers to them.
+use crate::runs::{Row, differences, joined, ran_over, ran_slowly, written};
+use crate::trees::{Entries, fixed_zone, root, text};
+use crate::{changed_zone, table_zone, three_zones, unlawful_zones};
+use resb::Resource;
+use std::alloc::{AllocError, Global};
+use std::test::Fail;
+use tell::Status;
+
+// Zones, dialects and phrases of each kind, with their moments or what is refused.
+const MOMENTS: [Row; 22] = [
+    (
+        "Test/Plus2\t1521622800\tuk\t2018-03-23 20:00",
+        "1521828000\t0\t7200\t+\t2 days",
+    ),
+    (
+        "Test/Plus2\t1521622800\tuk\tfriday 8pm",
+        "1521828000\t0\t7200\t+\t2 days",
+    ),
+    (
+        "America/Los_Angeles\t1521622800\tuk\t2025-03-09 02:30",
+        "1741516200\t0\t-25200\t+\t6 years",
+    ),
+    (
+        "America/Los_Angeles\t1521622800\tuk\t2025-11-02 01:30",
+        "1762072200\t0\t-25200\t+\t7 years",
+    ),
+    (
+        "US/Pacific\t1521622800\tuk\t9999-07-04 12:00",
+        "253386730800\t0\t-25200\t+\t7986 years",
+    ),
+    (
+        "Test/Plus2\t1521622800\tuk\t2018-04-01 25:00",
+        "1522623600\t0\t7200\t+\t1 week",
+    ),
+    (
+        "Test/Plus2\t1521622800\tuk\t2017-06-30 08:20:30 +0400",
+        "1498796430\t0\t7200\t-\t8 months ago",
+    ),
+    (
+        "America/Los_Angeles\t1704139200\tus\t2024-06-01 12:00:00 -07:00",
+        "1717268400\t0\t-25200\t+\t4 months",
+    ),
+    (
+        "America/Los_Angeles\t1704139200\tus\t2024-06-01 12:00:00",
+        "1717268400\t0\t-25200\t+\t4 months",
+    ),
+    (
+        "Test/Plus2\t1521622800\tuk\t2018-03-21 11:00",
+        "1521622800\t0\t7200\t-\tnow",
+    ),
+    (
+        "Test/Plus2\t1521622800\tuk\tlast 29/2",
+        "! date could not be parsed from input",
+    ),
+    (
+        "Test/Plus2\t1521622800\tuk\t4 July 10:00",
+        "! expected number as position 9..10",
+    ),
+    (
+        "Test/Plus2\t1521622800\tuk\tnext 5:00",
+        "! expected day or month name at the end of the input",
+    ),
+    (
+        "Test/Plus2\t1521622800\tuk\t12:75",
+        "! time could not be parsed from input",
+    ),
+    (
+        "Test/Plus2\t1521622800\tuk\t2018-260-1 10:00",
+        "! date could not be parsed from input",
+    ),
+    (
+        "Test/Plus2\t1521622800\tus\tnext mon",
+        "1522015200\t0\t7200\t+\t4 days",
+    ),
+    (
+        "Test/Plus2\t1521622800\tuk\tnext mon",
+        "1522620000\t0\t7200\t+\t1 week",
+    ),
+    (
+        "Test/Plus2\t1521622800\tuk\tlast 8/11 9am",
+        "1510124400\t0\t7200\t-\t4 months ago",
+    ),
+    (
+        "Test/Plus2\t1521622800\tuk\t6 months ago",
+        "1505944800\t0\t7200\t-\t5 months ago",
+    ),
+    (
+        "America/Los_Angeles\t1704139200\tuk\tnext friday 8pm",
+        "1705118400\t0\t-28800\t+\t1 week",
+    ),
+    (
+        "America/Los_Angeles\t1741599000\tuk\t1 day ago",
+        "1741516200\t0\t-25200\t-\t23 hours ago",
+    ),
+    (
+        "Test/Plus2\t253402300799\tuk\t9999 years",
+        "568940277600\t0\t7200\t+\t10005 years",
+    ),
+];
+
+// Further lines over the same zones.
+const FURTHER: [Row; 12] = [
+    ("Test/Plus2\t253402300800\tuk\tnow", "! base out of range"),
+    ("Test/None\t1521622800\tuk\tnow", "! unknown zone"),
+    (
+        "Test/Plus2\t1521622800\tuk\t2018-03-23 20:00:00.5",
+        "1521828000\t5\t7200\t+\t2 days",
+    ),
+    (
+        "Test/Plus2\t1521622800\tuk\t2018-03-23 8.00pm or so",
+        "1521828000\t0\t7200\t+\t2 days",
+    ),
+    (
+        "Test/Plus2\t1521622800\tuk\tnext month",
+        "1522620000\t0\t7200\t+\t1 week",
+    ),
+    (
+        "Test/Plus2\t1521622800\tuk\t2017-06-30 12am",
+        "1498773600\t0\t7200\t-\t8 months ago",
+    ),
+    (
+        "Test/Plus2\t1521622800\tuk\t2017-06-30 12.15am",
+        "1498774500\t0\t7200\t-\t8 months ago",
+    ),
+    (
+        "Test/Plus2\t1521622800\tuk\ttues",
+        "1522101600\t0\t7200\t+\t5 days",
+    ),
+    (
+        "Test/Plus2\t1521622800\tuk\t2d 03:00",
+        "1521766800\t0\t7200\t+\t1 day",
+    ),
+    (
+        "Test/Plus2\t1521622800\tuk\twed 24:00",
+        "! date could not be parsed from input",
+    ),
+    (
+        "Test/Plus2\t1521622800\tuk\t",
+        "! expected empty date string at the end of the input",
+    ),
+    ("x", "! bad line"),
+];
+
+// A phrase for each text that can be expected.
+const FAULTS: [Row; 15] = [
+    (
+        "Test/Plus2\t1521622800\tuk\t-June",
+        "! expected number as position 1..5",
+    ),
+    (
+        "Test/Plus2\t1521622800\tuk\t2018-3/23",
+        "! expected '-' as position 6..7",
+    ),
+    (
+        "Test/Plus2\t1521622800\tuk\t1é",
+        "! expected date as position 1..3",
+    ),
+    (
+        "Test/Plus2\t1521622800\tuk\t5 days x",
+        "! expected 'ago' as position 7..8",
+    ),
+    (
+        "Test/Plus2\t1521622800\tuk\tbananas",
+        "! expected unsupported identifier as position 0..7",
+    ),
+    (
+        "Test/Plus2\t1521622800\tuk\t-5",
+        "! expected duration at the end of the input",
+    ),
+    (
+        "Test/Plus2\t1521622800\tuk\t5 bananas",
+        "! expected month or time unit as position 2..9",
+    ),
+    (
+        "Test/Plus2\t1521622800\tuk\t2018-03-23 20:00 +0200",
+        "! expected ':' as position 17..18",
+    ),
+    (
+        "Test/Plus2\t1521622800\tuk\t10:00:00 x",
+        "! expected expected Z/am/pm as position 9..10",
+    ),
+    (
+        "Test/Plus2\t1521622800\tuk\t10:00:00 5",
+        "! expected expected timezone as position 9..10",
+    ),
+    (
+        "Test/Plus2\t1521622800\tuk\t8.00 x",
+        "! expected expected am/pm as position 5..6",
+    ),
+    (
+        "Test/Plus2\t1521622800\tuk\t2d 03 x",
+        "! expected : or . as position 6..7",
+    ),
+    (
+        "Test/Plus2\t1521622800\tuk\t2d 03",
+        "! expected : or . at the end of the input",
+    ),
+    (
+        "Test/Plus2\t1521622800\tuk\tfriday 8 x",
+        "! expected am/pm as position 9..10",
+    ),
+    (
+        "Test/Plus2\t1521622800\tuk\tfriday 8",
+        "! expected am/pm, ':' or '.' at the end of the input",
+    ),
+];
+
+// The edges of what a base, a fraction and a line can be.
+const EDGES: [Row; 9] = [
+    (
+        "Test/Plus2\t-377705116800\tuk\tnow",
+        "-377705116800\t0\t7200\t-\tnow",
+    ),
+    (
+        "Test/Plus2\t253402300799\tuk\tnow",
+        "253402300799\t0\t7200\t-\tnow",
+    ),
+    ("Test/Plus2\t-377705116801\tuk\tnow", "! base out of range"),
+    ("Test/None\t253402300800\tuk\tx", "! unknown zone"),
+    ("Test/Plus2\t253402300800\tuk\tx", "! base out of range"),
+    (
+        "Test/Plus2\t1521622800\tuk\t2018-03-21 11:00:00.5",
+        "1521622800\t5\t7200\t+\tnow",
+    ),
+    (
+        "Test/Plus2\t1521622800\tuk\t2018-03-21 11:00:00.5\r",
+        "1521622800\t5\t7200\t+\tnow",
+    ),
+    (
+        "Test/Plus2\t1521622800\tuk\t2018-03-21 11:00:00.5\r\r",
+        "! expected expected timezone as position 21..22",
+    ),
+    (
+        "America/Los_Angeles\t1762075800\tuk\tnow",
+        "1762072200\t0\t-25200\t-\t1 hour ago",
+    ),
+];
+
+// Zones that break a law, the least of which is told.
+const UNLAWFUL: [Row; 2] = [
+    ("Bad/Four\t1521622800\tuk\tnow", "! unlawful zone 4"),
+    ("Bad/Eight\t1521622800\tuk\tnow", "! unlawful zone 8"),
+];
+
+const IN_THE_GAP: &str = "America/Los_Angeles\t1521622800\tuk\t2025-03-09 02:30";
+
+// Over a gap of a table, and the first of two seconds of a fold.
+const BY_TABLE: [Row; 2] = [
+    (
+        "Test/Table\t1521622800\tuk\t2018-03-25 01:30",
+        "1521941400\t0\t3600\t+\t3 days",
+    ),
+    (
+        "Test/Table\t1521622800\tuk\t2018-10-28 01:30",
+        "1540686600\t0\t3600\t+\t7 months",
+    ),
+];
+
+// Offsets of nearly a day, and of a day.
+const NEARLY_A_DAY: [Row; 1] = [(
+    "Test/Zone\t0\tuk\t1970-01-01 0:00",
+    "-86399\t0\t86399\t-\t23 hours ago",
+)];
+
+const A_DAY: [Row; 1] = [("Test/Zone\t0\tuk\t1970-01-01 0:00", "! unlawful zone 3")];
+
+// The same moments in further languages.
+const RUSSIAN: [Row; 2] = [
+    (
+        "Test/Plus2\t1521622800\tuk\t2018-03-23 20:00",
+        "1521828000\t0\t7200\t+\t2 дня",
+    ),
+    (
+        "Test/Plus2\t1521622800\tuk\t6 months ago",
+        "1505944800\t0\t7200\t-\t5 месяцев назад",
+    ),
+];
+
+const GERMAN: [Row; 3] = [
+    (
+        "Test/Plus2\t1521622800\tuk\t2018-03-23 20:00",
+        "1521828000\t0\t7200\t+\t2 Tagen",
+    ),
+    (
+        "Test/Plus2\t1521622800\tuk\t6 months ago",
+        "1505944800\t0\t7200\t-\tvor 5 Monaten",
+    ),
+    ("x", "! bad line"),
+];
+
+const JAPANESE: [Row; 2] = [
+    (
+        "Test/Plus2\t1521622800\tuk\t2018-03-23 20:00",
+        "1521828000\t0\t7200\t+\t2日",
+    ),
+    (
+        "Test/Plus2\t1521622800\tuk\t6 months ago",
+        "1505944800\t0\t7200\t-\t5月前",
+    ),
+];
+
+// Seconds, told to the past in three counts.
+const SECONDS_RU: [Row; 1] = [("3600", "1 час назад")];
+
+const SECONDS_EN: [Row; 2] = [
+    ("18446744073709551616", "! bad line"),
+    ("3663", "1 hour 1 minute 3 seconds ago"),
+];
+
+const SECONDS_DE: [Row; 1] = [("3600", "vor 1 Stunde")];
+
+const EN: [&str; 3] = ["at", "en", "F"];
+
+#[test]
+fn answers_lines_of_each_kind(rt: HostRuntime) -> Result<(), Fail> {
+    let alloc = rt.alloc();
+    let bundle = written(alloc, &three_zones(alloc)?)?;
+    let tables: [&[Row]; 4] = [&MOMENTS, &FURTHER, &FAULTS, &EDGES];
+    for rows in tables {
+        let told = differences(alloc, &EN, &bundle, rows)?;
+        assert_eq!(rt; told.as_str(), "");
+    }
+    Ok(())
+}
+
+#[test]
+fn answers_lines_over_other_zones(rt: HostRuntime) -> Result<(), Fail> {
+    let alloc = rt.alloc();
+    let tables: [(Resource, &[Row]); 4] = [
+        (unlawful_zones(alloc)?, &UNLAWFUL),
+        (table_zone(alloc)?, &BY_TABLE),
+        (single(alloc, 86_399)?, &NEARLY_A_DAY),
+        (single(alloc, 86_400)?, &A_DAY),
+    ];
+    for (tree, rows) in tables {
+        let told = differences(alloc, &EN, &written(alloc, &tree)?, rows)?;
+        assert_eq!(rt; told.as_str(), "");
+    }
+    Ok(())
+}
+
+/// A bundle of `Test/Zone` alone, with this offset at all seconds.
+fn single(alloc: Global, offset: i32) -> Result<Resource, AllocError> {
+    let zones = vec![in alloc; fixed_zone(alloc, offset)?]?;
+    let names = vec![in alloc; text(alloc, "Test/Zone")?]?;
+    let regions = vec![in alloc; text(alloc, "001")?]?;
+    let rules = Entries::new(alloc).into_table();
+    root(alloc, zones, names, rules, regions)
+}
+
+#[test]
+fn tells_the_law_that_a_change_breaks(rt: HostRuntime) -> Result<(), Fail> {
+    let alloc = rt.alloc();
+    // the table runs into the rule's first year; what holds after it is daylight time
+    let changes = [
+        (changed_zone(alloc, 2007, &[1, 0])?, "! unlawful zone 6"),
+        (changed_zone(alloc, 2008, &[0, 1])?, "! unlawful zone 7"),
+    ];
+    for (tree, answer) in changes {
+        let rows = [(IN_THE_GAP, answer)];
+        let told = differences(alloc, &EN, &written(alloc, &tree)?, &rows)?;
+        assert_eq!(rt; told.as_str(), "");
+    }
+    Ok(())
+}
+
+#[test]
+fn answers_in_other_languages(rt: HostRuntime) -> Result<(), Fail> {
+    let alloc = rt.alloc();
+    let bundle = written(alloc, &three_zones(alloc)?)?;
+    let tables: [(&[&str], &[Row]); 6] = [
+        (&["at", "ru", "F"], &RUSSIAN),
+        (&["at", "de", "F"], &GERMAN),
+        (&["at", "ja", "F"], &JAPANESE),
+        (&["ago", "ru"], &SECONDS_RU),
+        (&["ago", "en"], &SECONDS_EN),
+        (&["ago", "de"], &SECONDS_DE),
+    ];
+    for (args, rows) in tables {
+        let told = differences(alloc, args, &bundle, rows)?;
+        assert_eq!(rt; told.as_str(), "");
+    }
+    Ok(())
+}
+
+#[test]
+fn answers_lines_that_come_byte_by_byte(rt: HostRuntime) -> Result<(), Fail> {
+    let alloc = rt.alloc();
+    let tables: [&[Row]; 4] = [&MOMENTS, &FURTHER, &FAULTS, &EDGES];
+    for rows in tables {
+        let bundle = written(alloc, &three_zones(alloc)?)?;
+        let (lines, answers) = joined(alloc, rows)?;
+        let (status, text) = ran_slowly(alloc, &EN, bundle, &lines, false)?;
+        assert_eq!(rt; status, Status::Done);
+        assert_eq!(rt; text.as_slice(), answers.as_slice());
+    }
+    Ok(())
+}
+
+#[test]
+fn answers_all_ended_lines_before_a_fault(rt: HostRuntime) -> Result<(), Fail> {
+    let alloc = rt.alloc();
+    let bundle = written(alloc, &three_zones(alloc)?)?;
+    let mut rows = Vec::new(alloc);
+    for _ in 0..98 {
+        rows.push(MOMENTS[0])?;
+    }
+    let (lines, _) = joined(alloc, &rows)?;
+    let (_, answers) = joined(alloc, &rows[..97])?;
+    let (status, text) = ran_slowly(alloc, &EN, bundle, &lines[..4096], true)?;
+    assert_eq!(rt; status, Status::ReadFault);
+    assert_eq!(rt; text.as_slice(), answers.as_slice());
+    Ok(())
+}
+
+#[test]
+fn answers_long_lines(rt: HostRuntime) -> Result<(), Fail> {
+    let alloc = rt.alloc();
+    let (line, answer) = MOMENTS[0];
+    let mut blanks = [b' '; 1025];
+    blanks[..line.len()].copy_from_slice(line.as_bytes());
+    let mut no_text = blanks;
+    no_text[line.len()] = 0xff;
+    let mut digits = [b'1'; 925];
+    digits[..25].copy_from_slice(b"Test/Plus2\t1521622800\tuk\t");
+    let rows: [(&[u8], &str); 4] = [
+        (&blanks[..1024], answer),
+        (&blanks, "! bad line"),
+        (&no_text[..1024], "! bad line"),
+        (&digits, "! expected date as position 4..8"),
+    ];
+    for (line, answer) in rows {
+        let bundle = written(alloc, &three_zones(alloc)?)?;
+        let (status, text) = ran_over(alloc, &EN, bundle, line)?;
+        let wanted = format!(in alloc; "{answer}\n")?;
+        assert_eq!(rt; status, Status::Done);
+        assert_eq!(rt; text.as_slice(), wanted.as_bytes());
+    }
+    Ok(())
+}

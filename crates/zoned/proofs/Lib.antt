@@ -1,0 +1,3 @@
+pub mod OffsetTexts
+pub mod OneOffset
+pub mod PlacedSeconds

@@ -1,0 +1,6 @@
+use Rattle.std.proofs.Common.{arith}
+use Rattle.civil.proofs.SignedLemmas.{signed_casts, int_rem_euclid-parts, bits_of_nonnegative}
+use Rattle.zoned.proofs.datetime.carried.Goals as goal
+
+pub returns-clause-whole : goal.returns-clause-whole
+returns-clause-whole c = omega (arith, signed_casts, int_rem_euclid-parts, bits_of_nonnegative)

@@ -1,0 +1,5 @@
+pub mod Answers
+pub mod Moment
+pub mod Offsets
+pub mod Placing
+pub mod Texts

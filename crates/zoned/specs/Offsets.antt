@@ -1,0 +1,7 @@
+-- Offsets of less than a day.
+use Rattle.std.specs.Prelude.{ℤ, pos, negsuc, ◌≤ℤ◌}
+
+-- less than a day to either side
+pub record IsOffset (seconds : ℤ) : Type 0 where
+  pub west : negsuc 86398 ≤ℤ seconds
+  pub east : seconds ≤ℤ pos 86399

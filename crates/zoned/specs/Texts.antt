@@ -1,0 +1,20 @@
+-- How an offset is written: +hh:mm, and :ss where it has seconds.
+use Rattle.std.specs.Prelude.{ℕ, ◌/◌, ◌%◌, ◌==◌, List, ◌∷◌, ◌++◌, codes, if◌then◌else◌, ℤ, pos, int_lt, unsigned_abs}
+use Rattle.std.specs.Fmt.{decimal}
+
+abbrev pub offset_sign : ℤ → List ℕ
+offset_sign seconds = if int_lt seconds (pos 0) then codes "-" else codes "+"
+
+-- two digits of a number below 100, and a text behind them
+abbrev pub two_digits : ℕ → List ℕ → List ℕ
+two_digits n more = decimal (n / 10) ++ (decimal (n % 10) ++ more)
+
+-- the hours, a colon and the minutes; then a colon and the seconds, where there are any
+abbrev pub clock_text : ℕ → List ℕ
+clock_text n =
+    if n % 60 == 0
+    then two_digits (n / 3600) (58 ∷ (decimal (n / 60 % 60 / 10) ++ decimal (n / 60 % 60 % 10)))
+    else two_digits (n / 3600) (58 ∷ two_digits (n / 60 % 60) (58 ∷ (decimal (n % 60 / 10) ++ decimal (n % 60 % 10))))
+
+abbrev pub offset_text : ℤ → List ℕ
+offset_text seconds = offset_sign seconds ++ clock_text (unsigned_abs seconds)

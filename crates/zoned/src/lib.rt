@@ -1,0 +1,17 @@
+//! Zones, their offsets, and moments with the offset of a zone.
+#![tactic(auto)]
+
+pub mod datetime;
+pub mod fixed;
+pub mod laws;
+pub mod offset;
+pub mod placing;
+#[cfg(test)]
+mod tests;
+pub mod utc;
+
+pub use datetime::DateTime;
+pub use fixed::FixedOffset;
+pub use offset::{Civil, CivilOffset, MappedLocalTime, Offset, TimeZone};
+pub use placing::{placed, placed_at_offset};
+pub use utc::Utc;

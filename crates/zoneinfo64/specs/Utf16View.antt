@@ -1,0 +1,7 @@
+-- The characters that a `Utf16Chars` has left.
+use Rattle.std.specs.Prelude.{ℕ, List}
+use Rattle.std.specs.Char.Utf16.{utf16_lossy_chars}
+use Rattle.zoneinfo64.specs.declared.utf16.Utf16Chars.{Utf16Chars}
+
+abbrev pub chars_in : Utf16Chars → List ℕ
+chars_in s = utf16_lossy_chars s.units.now
