@@ -5,7 +5,7 @@
 # without those of a run with a bundle of 52 words, which are mostly the program's start. A tool that is missing is skipped.
 # Ends with 1 where a run ends with another status than it has to.
 set -u
-top=$(cd "$(dirname "$0")/.." && pwd -P) || exit 1
+top=$(CDPATH='' cd -- "$(dirname -- "$0")/.." && pwd -P) || exit 1
 work=$(mktemp -d) || exit 1
 trap 'rm -rf "$work"' EXIT
 trap 'exit 1' HUP INT TERM
