@@ -21,10 +21,10 @@ use std::sync::ledger::{Blank, Ledger};
 use steps::Steps;
 
 /// A transition's second, and the earlier and the later of its walls: its second plus the offset before it, and its
-/// second plus its own. In 128 bits no sum wraps.
+/// second plus its own. In 128 bits no wall wraps.
 #[derive(Clone, Copy)]
 pub struct Walls {
-    since: i128,
+    since: i64,
     earliest: i128,
     latest: i128,
 }
@@ -34,7 +34,7 @@ fn walls_of(since: i64, before: i32, after: i32) -> Walls
 {
     let second = since as i128;
     Walls {
-        since: second,
+        since,
         earliest: second + before.min(after) as i128,
         latest: second + before.max(after) as i128,
     }
@@ -47,10 +47,16 @@ fn step_walls(before: &Offset, entry: &Transition) -> Walls
     walls_of(entry.since, before.offset.seconds(), entry.offset.seconds())
 }
 
+fn are_between(first: i64, latest: i128, earliest: i128, second: i64) -> bool
+    ensures { IsTrue result ↔ ((latest ≤ℤ second) × (first ≤ℤ earliest)) }
+{
+    latest <= second as i128 && first as i128 <= earliest
+}
+
 fn are_near(first: Walls, second: Walls) -> bool
     ensures { IsTrue result ↔ AreNear first second }
 {
-    first.latest <= second.since && first.since <= second.earliest
+    are_between(first.since, first.latest, second.earliest, second.since)
 }
 
 fn are_walled(first: Walls, second: Walls) -> bool
@@ -62,13 +68,13 @@ fn are_walled(first: Walls, second: Walls) -> bool
 fn end_before(limit: i64, walls: Walls) -> bool
     ensures { IsTrue result ↔ EndBefore limit walls }
 {
-    walls.since < limit as i128 && walls.latest <= limit as i128
+    walls.since < limit && walls.latest <= limit as i128
 }
 
 fn begin_from(low: i64, walls: Walls) -> bool
     ensures { IsTrue result ↔ BeginFrom low walls }
 {
-    low as i128 <= walls.since && low as i128 <= walls.earliest
+    low <= walls.since && low as i128 <= walls.earliest
 }
 
 fn lie_in(low: i64, high: i64, walls: Walls) -> bool
@@ -83,9 +89,12 @@ fn both_lie_in(low: i64, high: i64, first: Walls, second: Walls) -> bool
     lie_in(low, high, first) && lie_in(low, high, second)
 }
 
-fn is_in_part(early: bool, late: bool, since: i128) -> bool
+fn is_in_part(early: bool, late: bool, since: i64) -> bool
     ensures { IsTrue result ↔ InPart early late since }
 {
+    if !early && !late {
+        return true;
+    }
     (!early || since < -2_147_483_648) && (!late || since > 2_147_483_647)
 }
 

@@ -50,15 +50,16 @@ pub fn least_of(
 ) -> Result<(), ZoneFault>
     ensures { result ≡ least_of first second }
 {
-    match (first, second) {
-        (Ok(()), other) => other,
-        (Err(fault), Ok(())) => Err(fault),
-        (Err(fault), Err(other)) => {
-            if other.number() < fault.number() {
-                Err(other)
-            } else {
-                Err(fault)
-            }
-        }
+    // Most entries of a table break no law, so the second is looked at first.
+    let Err(other) = second else {
+        return first;
+    };
+    let Err(fault) = first else {
+        return Err(other);
+    };
+    if other.number() < fault.number() {
+        Err(other)
+    } else {
+        Err(fault)
     }
 }
