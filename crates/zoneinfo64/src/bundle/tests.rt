@@ -183,15 +183,14 @@ fn reads_a_table(rt: HostRuntime) -> Result<(), Fail> {
     assert_eq!(rt; zone.late(), 1);
     assert_eq!(rt; zone.type_map(), [0, 1, 0, 1, 0].as_slice());
     let rows = [
-        (-4_294_967_296, 7200, false),
-        (-2_147_483_649, 10_800, true),
-        (-1, 7200, false),
-        (5, 10_800, true),
-        (4_294_967_295, 7200, false),
+        (0, -4_294_967_296, 7200, false),
+        (1, -2_147_483_649, 10_800, true),
+        (2, -1, 7200, false),
+        (3, 5, 10_800, true),
+        (4, 4_294_967_295, 7200, false),
     ];
     assert_eq!(rt; zone.len(), 5);
-    let mut n = 0;
-    for (since, seconds, rule_applies) in rows {
+    for (n, since, seconds, rule_applies) in rows {
         let offset = UtcOffset::from_seconds(seconds);
         let wanted = Transition {
             since,
@@ -199,7 +198,6 @@ fn reads_a_table(rt: HostRuntime) -> Result<(), Fail> {
             rule_applies,
         };
         assert_eq!(rt; entry(zone, n), Some(wanted), "at {n}");
-        n += 1;
     }
     Ok(())
 }
