@@ -399,22 +399,6 @@ fn answers_lines_that_come_byte_by_byte(rt: HostRuntime) -> Result<(), Fail> {
 }
 
 #[test]
-fn answers_all_ended_lines_before_a_fault(rt: HostRuntime) -> Result<(), Fail> {
-    let alloc = rt.alloc();
-    let bundle = written(alloc, &three_zones(alloc)?)?;
-    let mut rows = Vec::new(alloc);
-    for _ in 0..98 {
-        rows.push(MOMENTS[0])?;
-    }
-    let (lines, _) = joined(alloc, &rows)?;
-    let (_, answers) = joined(alloc, &rows[..97])?;
-    let (status, text) = ran_slowly(alloc, &EN, bundle, &lines[..4096], true)?;
-    assert_eq!(rt; status, Status::ReadFault);
-    assert_eq!(rt; text.as_slice(), answers.as_slice());
-    Ok(())
-}
-
-#[test]
 fn answers_long_lines(rt: HostRuntime) -> Result<(), Fail> {
     let alloc = rt.alloc();
     let (line, answer) = MOMENTS[0];

@@ -9,6 +9,15 @@ use tell::{MemSink, MemSource, Status, run};
 
 const FIRST_LINE: &str = "Test/Plus2\t1521622800\tuk\t2018-03-23 20:00";
 
+const THREE_LINES: &str = "Test/Plus2\t1521622800\tuk\t2018-03-23 20:00
+Test/Plus2\t1521622800\tuk\t2018-03-21 11:00
+Test/Plus2\t1521622800\tuk\tlast 29/2";
+
+const THREE_ANSWERS: &str = "1521828000\t0\t7200\t+\t2 days
+1521622800\t0\t7200\t-\tnow
+! date could not be parsed from input
+";
+
 const EN: [&str; 3] = ["at", "en", "F"];
 
 #[test]
@@ -113,6 +122,53 @@ fn refuses_rules_and_offsets_that_are_none(rt: HostRuntime) -> Result<(), Fail> 
         let (status, text) = ran_over(alloc, &EN, bundle, b"")?;
         assert_eq!(rt; status.code(), code, "{rule:?}");
         assert_eq!(rt; text.len(), 0);
+    }
+    Ok(())
+}
+
+/// This call alone, or none.
+fn calls(alloc: Global, fails: bool, call: u64) -> Result<Vec<u64>, AllocError> {
+    let mut calls = Vec::new(alloc);
+    if fails {
+        calls.push(call)?;
+    }
+    Ok(calls)
+}
+
+/// How a run over three lines ends where this call of the bundle, the input or the sink fails, and what was written.
+fn failed_at(alloc: Global, part: u8, call: u64) -> Result<(u8, Vec<u8>), Fail> {
+    let args = words(alloc, &EN)?;
+    let of_bundle = calls(alloc, part == 0, call)?;
+    let of_input = calls(alloc, part == 1, call)?;
+    let of_output = calls(alloc, part == 2, call)?;
+    let mut bundle = MemSource::new(written(alloc, &three_zones(alloc)?)?, of_bundle);
+    let lines = Vec::from_slice(alloc, THREE_LINES.as_bytes())?;
+    let mut input = MemSource::new(lines, of_input);
+    let mut output = MemSink::new(alloc, 1000, of_output)?;
+    let status = run(alloc, &args, &mut bundle, &mut input, &mut output);
+    Ok((status.code(), Vec::from_slice(alloc, output.bytes())?))
+}
+
+#[test]
+fn ends_at_each_failing_call(rt: HostRuntime) -> Result<(), Fail> {
+    let alloc = rt.alloc();
+    for (part, code) in [(0, 4), (1, 4), (2, 5)] {
+        assert_eq!(rt; failed_at(alloc, part, 1)?.0, code);
+        for call in 2..100 {
+            let (ended, output) = failed_at(alloc, part, call)?;
+            // a call that is not reached fails nothing
+            let wanted = if ended == 0 { 0 } else { code };
+            assert_eq!(rt; ended, wanted, "call {call}");
+            assert!(rt;
+                THREE_ANSWERS.as_bytes().starts_with(&output),
+                "call {call}"
+            );
+            assert!(rt;
+                ended != 0 || output.len() == THREE_ANSWERS.len(),
+                "call {call}"
+            );
+        }
+        assert_eq!(rt; failed_at(alloc, part, 100)?.0, 0);
     }
     Ok(())
 }
