@@ -1,9 +1,9 @@
 -- The calendar repeats after 400 years, which are 146097 days; and the year of a day, by cycles of 400 years.
-use Rattle.std.proofs.Common.{◌≡◌, ◌⊎◌, ℕ, zero, suc, ◌+◌, ◌*◌, ◌/◌, ◌%◌, ◌<◌, ◌≤◌, ◌==◌, cond, refl, ap, ◌∙◌, arith, ℤ, pos, negsuc, ◌+ℤ◌, ◌-ℤ◌, ◌*ℤ◌, ◌≤ℤ◌, ◌<ℤ◌, unsigned_abs}
+use Rattle.std.proofs.Common.{◌≡◌, ◌⊎◌, ℕ, suc, ◌+◌, ◌*◌, ◌/◌, ◌%◌, ◌<◌, ◌≤◌, ◌==◌, refl, ap, arith, ℤ, pos, negsuc, ◌+ℤ◌, ◌-ℤ◌, ◌*ℤ◌, unsigned_abs}
 use Rattle.std.proofs.lemmas.Int.{ints}
 use Rattle.std.proofs.lemmas.Bool.Decides.{nat_tests}
-use Rattle.civil.specs.Calendar.{is_leap_year, days_in_year, days_in_month, year_start, leap_days_to, days_of_months, HoldsDay}
-use Rattle.civil.proofs.SignedLemmas.{signed_arith, one_part}
+use Rattle.civil.specs.Calendar.{is_leap_year, year_start, leap_days_to, HoldsDay}
+use Rattle.civil.proofs.SignedLemmas.{signed_arith}
 use Rattle.civil.proofs.CalendarLemmas.{year_start-closed}
 
 -- ---- 400 years
@@ -43,7 +43,7 @@ is_leap_year-400 (negsuc n) =
 -- ---- the year of a day
 
 -- the leap days of 400 q + n years
-leap_cycle : (x q : ℤ) (n : ℕ) → x ≡ pos 400 *ℤ q +ℤ pos n → n ≤ 400 → leap_days_to x ≡ pos 97 *ℤ q +ℤ pos (n / 4 + n / 400) -ℤ pos (n / 100)
+pub leap_cycle : (x q : ℤ) (n : ℕ) → x ≡ pos 400 *ℤ q +ℤ pos n → n ≤ 400 → leap_days_to x ≡ pos 97 *ℤ q +ℤ pos (n / 4 + n / 400) -ℤ pos (n / 100)
 unfolding leap_days_to
 leap_cycle x q n e h = omega (arith, signed_arith)
 

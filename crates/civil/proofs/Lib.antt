@@ -1,3 +1,4 @@
+pub mod YearsBetween
 pub mod SignedLemmas
 pub mod CalendarLemmas
 pub mod CalendarCycle
@@ -8,3 +9,6 @@ pub mod DateEnds
 pub mod DateMoves
 pub mod WallParts
 pub mod CalendarExamples
+pub mod WeekOfThursday
+pub mod Setters
+pub mod DateTexts

@@ -48,6 +48,10 @@ day_of y m d = year_start y +ℤ pos (days_of_months y (m - 1) + (d - 1))
 abbrev pub weekday_of : ℤ → ℤ
 weekday_of day = int_rem_euclid (day +ℤ pos 3) (pos 7)
 
+-- the Thursday of a day's week
+unfoldable pub thursday_of : ℤ → ℤ
+thursday_of day = day +ℤ pos 3 -ℤ weekday_of day
+
 -- the kind of a year: the weekday of 1 January, and 7 more in a leap year
 unfoldable pub year_kind : ℤ → ℕ
 year_kind y = unsigned_abs (weekday_of (year_start y)) + (if is_leap_year y then 7 else 0)

@@ -1,8 +1,11 @@
-ghost use Rattle.std.specs.Prelude.{◌≡◌, ◌+◌, ◌-◌, ◌<◌, ◌≤◌, ◌↔◌, ℕ, ℤ, pos, ◌+ℤ◌, IsSome, IfSome};
+ghost use Rattle.std.specs.Prelude.{◌≡◌, ◌+◌, ◌-◌, ◌<◌, ◌≤◌, ◌↔◌, ℕ, ℤ, pos, negsuc, ◌+ℤ◌, ◌≤ℤ◌, IsSome, IfSome};
 ghost use Rattle.civil.specs.Calendar.{days_in_year, days_of_months, year_start, day_of, weekday_of, HoldsDay, IsDate, IsDay, IsDateOf};
+ghost use Rattle.civil.specs.Ordinals.{IsOrdinal, IsOrdinalOf, ordinal_day};
+ghost use Rattle.civil.specs.Weeks.{IsWeekOf, week_year, week_number};
 ghost use Rattle.civil.specs.Weekdays.{days_from_monday};
 
-use crate::calendar::{days_before_month, days_before_year, month_length, year_of_day};
+use crate::calendar::{days_before_month, days_before_year, is_leap, month_length, year_of_day};
+use crate::iso_week::IsoWeek;
 use crate::weekday::Weekday;
 use std::marker::Model;
 
@@ -78,9 +81,21 @@ impl NaiveDate {
 }
 
 /// What has a year, a month and a day of the month.
+///
+/// A setter changes one part and keeps the others. It answers the changed date, and `None` exactly where the calendar has no
+/// such date or the type does not take it: [`NaiveDate`] takes every date of the calendar. So no part of a date is cut to fit.
 pub trait Datelike: Sized {
     /// The day number.
     ghost number: { Self → ℤ };
+
+    /// Whether it is known which days a setter takes.
+    ghost settled: { Self → Type 0 };
+
+    /// Whether a setter takes the day of this number.
+    ghost takes: { Self → ℤ → Type 0 };
+
+    /// What a setter keeps of a value, beside the parts of its day.
+    ghost keeps: { Self → Self → Type 0 };
 
     /// The year.
     fn year(&self) -> i32
@@ -94,9 +109,101 @@ pub trait Datelike: Sized {
     fn day(&self) -> u32
         ensures { (y : ℤ) × (m : ℕ) × IsDateOf (number self.now) y m result };
 
+    /// The day of the year, from 1 to 365, or to 366 in a leap year. 2020-02-29 is day 60.
+    fn ordinal(&self) -> u32
+        ensures { (y : ℤ) × IsOrdinalOf (number self.now) y result };
+
     /// The day of the week.
     fn weekday(&self) -> Weekday
         ensures { pos (days_from_monday result) ≡ weekday_of (number self.now) };
+
+    /// The week of ISO 8601, with the year that the week belongs to. 2021-01-03 is in week 53 of 2020.
+    fn iso_week(&self) -> IsoWeek
+        ensures { IsWeekOf (number self.now) (week_year result) (week_number result) };
+
+    /// The date with this year. 2020-02-29 with the year 2016 is 2016-02-29, and with the year 2019 `None`.
+    fn with_year(&self, year: i32) -> Option<Self>
+        ensures kept { IfSome result (λ date. keeps self.now date) }
+        ensures changed { (y : ℤ) (m d : ℕ) → IsDateOf (number self.now) y m d → IfSome result (λ date. IsDateOf (number date) year m d) }
+        ensures exists { settled self.now → (y : ℤ) (m d : ℕ) → IsDateOf (number self.now) y m d → IsSome result ↔ IsDate year m d × takes self.now (day_of year m d) };
+
+    /// The date with this month, from 1 to 12. 2020-01-31 with month 3 is 2020-03-31, and with month 2 or 13 `None`.
+    fn with_month(&self, month: u32) -> Option<Self>
+        ensures kept { IfSome result (λ date. keeps self.now date) }
+        ensures changed { (y : ℤ) (m d : ℕ) → IsDateOf (number self.now) y m d → IfSome result (λ date. IsDateOf (number date) y month d) }
+        ensures exists { settled self.now → (y : ℤ) (m d : ℕ) → IsDateOf (number self.now) y m d → IsSome result ↔ IsDate y month d × takes self.now (day_of y month d) };
+
+    /// The date with this day of the month, from 1. 2020-02-01 with day 29 is 2020-02-29, and with day 30 or 0 `None`.
+    fn with_day(&self, day: u32) -> Option<Self>
+        ensures kept { IfSome result (λ date. keeps self.now date) }
+        ensures changed { (y : ℤ) (m d : ℕ) → IsDateOf (number self.now) y m d → IfSome result (λ date. IsDateOf (number date) y m day) }
+        ensures exists { settled self.now → (y : ℤ) (m d : ℕ) → IsDateOf (number self.now) y m d → IsSome result ↔ IsDate y m day × takes self.now (day_of y m day) };
+
+    /// The date with this day of the year, from 1. 2020-02-29 with day 366 is 2020-12-31; 2019-02-28 has none.
+    fn with_ordinal(&self, ordinal: u32) -> Option<Self>
+        ensures kept { IfSome result (λ date. keeps self.now date) }
+        ensures changed { (y : ℤ) (n : ℕ) → IsOrdinalOf (number self.now) y n → IfSome result (λ date. IsOrdinalOf (number date) y ordinal) }
+        ensures exists { settled self.now → (y : ℤ) (n : ℕ) → IsOrdinalOf (number self.now) y n → IsSome result ↔ IsOrdinal y ordinal × takes self.now (ordinal_day y ordinal) };
+
+    /// The month, from 0 for January to 11 for December.
+    final fn month0(&self) -> u32
+        ensures { (y : ℤ) × (d : ℕ) × IsDateOf (number self.now) y (result + 1) d }
+    {
+        self.month() - 1
+    }
+
+    /// The day of the month, from 0 to 30.
+    final fn day0(&self) -> u32
+        ensures { (y : ℤ) × (m : ℕ) × IsDateOf (number self.now) y m (result + 1) }
+    {
+        self.day() - 1
+    }
+
+    /// The day of the year, from 0 to 364, or to 365 in a leap year.
+    final fn ordinal0(&self) -> u32
+        ensures { (y : ℤ) × IsOrdinalOf (number self.now) y (result + 1) }
+    {
+        self.ordinal() - 1
+    }
+
+    /// The date with this month, from 0 to 11. 2020-01-31 with month 2 is 2020-03-31.
+    final fn with_month0(&self, month: u32) -> Option<Self>
+        ensures kept { IfSome result (λ date. keeps self.now date) }
+        ensures changed { (y : ℤ) (m d : ℕ) → IsDateOf (number self.now) y m d → IfSome result (λ date. IsDateOf (number date) y (month + 1) d) }
+        ensures exists { settled self.now → (y : ℤ) (m d : ℕ) → IsDateOf (number self.now) y m d → IsSome result ↔ IsDate y (month + 1) d × takes self.now (day_of y (month + 1) d) }
+    {
+        if month >= 12 {
+            None
+        } else {
+            self.with_month(month + 1)
+        }
+    }
+
+    /// The date with this day of the month, from 0. 2020-02-01 with day 28 is 2020-02-29.
+    final fn with_day0(&self, day: u32) -> Option<Self>
+        ensures kept { IfSome result (λ date. keeps self.now date) }
+        ensures changed { (y : ℤ) (m d : ℕ) → IsDateOf (number self.now) y m d → IfSome result (λ date. IsDateOf (number date) y m (day + 1)) }
+        ensures exists { settled self.now → (y : ℤ) (m d : ℕ) → IsDateOf (number self.now) y m d → IsSome result ↔ IsDate y m (day + 1) × takes self.now (day_of y m (day + 1)) }
+    {
+        if day >= 31 {
+            None
+        } else {
+            self.with_day(day + 1)
+        }
+    }
+
+    /// The date with this day of the year, from 0. 2020-02-29 with day 365 is 2020-12-31.
+    final fn with_ordinal0(&self, ordinal: u32) -> Option<Self>
+        ensures kept { IfSome result (λ date. keeps self.now date) }
+        ensures changed { (y : ℤ) (n : ℕ) → IsOrdinalOf (number self.now) y n → IfSome result (λ date. IsOrdinalOf (number date) y (ordinal + 1)) }
+        ensures exists { settled self.now → (y : ℤ) (n : ℕ) → IsOrdinalOf (number self.now) y n → IsSome result ↔ IsOrdinal y (ordinal + 1) × takes self.now (ordinal_day y (ordinal + 1)) }
+    {
+        if ordinal >= 366 {
+            None
+        } else {
+            self.with_ordinal(ordinal + 1)
+        }
+    }
 }
 
 // The month of the day of a year that has so many days of the year before it.
@@ -128,7 +235,7 @@ fn year_in(day: i64) -> i32
 }
 
 // The days of the year before a day.
-fn ordinal_in(year: i32, day: i64) -> u16
+pub(crate) fn ordinal_in(year: i32, day: i64) -> u16
     requires { HoldsDay year day }
     ensures value { day ≡ year_start year +ℤ pos result }
     ensures few { result < days_in_year year }
@@ -148,8 +255,45 @@ pub(crate) fn year_month_day(day: i64) -> (i32, u32, u32)
     (year, month as u32, day_of_month as u32)
 }
 
+// The day of the year of a day number, from 1, with its year.
+fn year_and_ordinal(day: i64) -> (i32, u32)
+    requires { IsDay day }
+    ensures place { IsOrdinalOf day result.0 result.1 }
+    ensures first { negsuc 262142 ≤ℤ result.0 }
+    ensures last { result.0 ≤ℤ pos 262142 }
+{
+    let year = year_in(day);
+    (year, ordinal_in(year, day) as u32 + 1)
+}
+
+// The date of a day of a year, from 1; `None` exactly where the calendar has none.
+fn date_of_ordinal(year: i32, ordinal: u32) -> Option<NaiveDate>
+    requires first { negsuc 262142 ≤ℤ year }
+    requires last { year ≤ℤ pos 262142 }
+    ensures some { IsSome result ↔ IsOrdinal year ordinal }
+    ensures value { IfSome result (λ date. date ≡ ordinal_day year ordinal) }
+{
+    if ordinal < 1 || ordinal > year_length(year) {
+        return None;
+    }
+    NaiveDate::from_day(days_before_year(year) + (ordinal - 1) as i64)
+}
+
+// The days of a year.
+fn year_length(year: i32) -> u32
+    ensures { result ≡ days_in_year year }
+{
+    if is_leap(year) { 366 } else { 365 }
+}
+
 impl Datelike for NaiveDate {
     ghost number = { λ d. d };
+
+    ghost settled = { λ _. Unit {0} };
+
+    ghost takes = { λ _ _. Unit {0} };
+
+    ghost keeps = { λ _ _. Unit {0} };
 
     fn year(&self) -> i32 {
         year_month_day(self.day as i64).0
@@ -163,7 +307,35 @@ impl Datelike for NaiveDate {
         year_month_day(self.day as i64).2
     }
 
+    fn ordinal(&self) -> u32 {
+        year_and_ordinal(self.day_number()).1
+    }
+
     fn weekday(&self) -> Weekday {
         Weekday::from_monday((self.day as i64 + 3).rem_euclid(7) as u8)
+    }
+
+    fn iso_week(&self) -> IsoWeek {
+        IsoWeek::of_day(self.day_number())
+    }
+
+    fn with_year(&self, year: i32) -> Option<NaiveDate> {
+        let date = year_month_day(self.day_number());
+        NaiveDate::from_ymd_opt(year, date.1, date.2)
+    }
+
+    fn with_month(&self, month: u32) -> Option<NaiveDate> {
+        let date = year_month_day(self.day_number());
+        NaiveDate::from_ymd_opt(date.0, month, date.2)
+    }
+
+    fn with_day(&self, day: u32) -> Option<NaiveDate> {
+        let date = year_month_day(self.day_number());
+        NaiveDate::from_ymd_opt(date.0, date.1, day)
+    }
+
+    fn with_ordinal(&self, ordinal: u32) -> Option<NaiveDate> {
+        let date = year_and_ordinal(self.day_number());
+        date_of_ordinal(date.0, ordinal)
     }
 }

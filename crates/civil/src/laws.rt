@@ -1,5 +1,6 @@
-ghost use Rattle.std.specs.Prelude.{◌≡◌, pos, negsuc};
-ghost use Rattle.civil.specs.Calendar.{day_of};
+ghost use Rattle.std.specs.Prelude.{◌≡◌, ℕ, ℤ, pos, negsuc};
+ghost use Rattle.civil.specs.Calendar.{day_of, IsDateOf};
+ghost use Rattle.civil.specs.Dates.{date_text, ymd_text};
 ghost use Rattle.civil.specs.Laws.{CountsYears, DatesAreDays, KindsOfYear, YearsRepeat};
 
 use crate::date::NaiveDate;
@@ -25,6 +26,11 @@ pub fn kinds_of_year()
 /// The calendar repeats after 400 years, which are 146,097 days.
 pub fn years_repeat()
     ensures { YearsRepeat }
+{}
+
+/// The text of a day number is its date: year, month and day.
+pub fn dates_are_written()
+    ensures { (day y : ℤ) (m d : ℕ) → IsDateOf day y m d → date_text day ≡ ymd_text y m d }
 {}
 
 /// The first and the last date, with their day numbers.

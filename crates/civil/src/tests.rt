@@ -1,7 +1,8 @@
 use crate::{
-    Datelike, NaiveDate, NaiveDateTime, NaiveTime, TimeDelta, days_before_month, days_before_year,
-    year_kind, year_of_day,
+    Datelike, NaiveDate, NaiveDateTime, NaiveTime, OutOfRange, TimeDelta, days_before_month,
+    days_before_year, year_kind, year_of_day,
 };
+use std::test::Fail;
 
 #[test]
 fn dates_are_numbered(rt: HostRuntime) {
@@ -167,4 +168,175 @@ fn lengths_of_time_are_nanoseconds(rt: HostRuntime) {
         TimeDelta::try_weeks(i64::MAX).is_none() && TimeDelta::try_minutes(i64::MIN).is_none()
     );
     assert_eq!(rt; TimeDelta::weeks(-1).num_days(), -7);
+}
+
+#[test]
+fn weeks_belong_to_the_year_of_their_thursday(rt: HostRuntime) -> Result<(), Fail> {
+    let rows = [
+        (2021, 1, 3, 2020, 53),
+        (2021, 1, 4, 2021, 1),
+        (2018, 3, 23, 2018, 12),
+        (-262_143, 1, 1, -262_143, 1),
+        (262_142, 12, 31, 262_143, 1),
+    ];
+    for (year, month, day, week_year, week) in rows {
+        let date = NaiveDate::from_ymd_opt(year, month, day).ok_or("no date")?;
+        assert_eq!(rt;
+            (date.iso_week().year(), date.iso_week().week()),
+            (week_year, week)
+        );
+    }
+    Ok(())
+}
+
+// the weeks of 1 January and of 31 December, from 1970 on
+#[test]
+fn years_begin_and_end_in_weeks(rt: HostRuntime) -> Result<(), Fail> {
+    let rows = [
+        (1970, 1, 1970, 53),
+        (1970, 53, 1971, 52),
+        (1971, 52, 1972, 52),
+        (1973, 1, 1974, 1),
+        (1974, 1, 1975, 1),
+        (1975, 1, 1976, 1),
+        (1976, 1, 1976, 53),
+        (1976, 53, 1977, 52),
+        (1977, 52, 1978, 52),
+        (1979, 1, 1980, 1),
+        (1980, 1, 1981, 1),
+        (1981, 1, 1981, 53),
+        (1981, 53, 1982, 52),
+        (1982, 52, 1983, 52),
+        (1983, 52, 1985, 1),
+        (1985, 1, 1986, 1),
+        (1986, 1, 1987, 1),
+        (1987, 1, 1987, 53),
+        (1987, 53, 1988, 52),
+        (1988, 52, 1989, 52),
+        (1990, 1, 1991, 1),
+        (1991, 1, 1992, 1),
+        (1992, 1, 1992, 53),
+        (1992, 53, 1993, 52),
+        (1993, 52, 1994, 52),
+        (1994, 52, 1995, 52),
+        (1996, 1, 1997, 1),
+        (1997, 1, 1998, 1),
+        (1998, 1, 1998, 53),
+        (1998, 53, 1999, 52),
+        (1999, 52, 2000, 52),
+        (2001, 1, 2002, 1),
+        (2002, 1, 2003, 1),
+        (2003, 1, 2004, 1),
+        (2004, 1, 2004, 53),
+        (2004, 53, 2005, 52),
+        (2005, 52, 2006, 52),
+        (2007, 1, 2008, 1),
+        (2008, 1, 2009, 1),
+        (2009, 1, 2009, 53),
+        (2009, 53, 2010, 52),
+        (2010, 52, 2011, 52),
+        (2011, 52, 2013, 1),
+        (2013, 1, 2014, 1),
+        (2014, 1, 2015, 1),
+        (2015, 1, 2015, 53),
+        (2015, 53, 2016, 52),
+        (2016, 52, 2017, 52),
+        (2018, 1, 2019, 1),
+        (2019, 1, 2020, 1),
+        (2020, 1, 2020, 53),
+        (2020, 53, 2021, 52),
+        (2021, 52, 2022, 52),
+        (2022, 52, 2023, 52),
+        (2024, 1, 2025, 1),
+        (2025, 1, 2026, 1),
+        (2026, 1, 2026, 53),
+        (2026, 53, 2027, 52),
+        (2027, 52, 2028, 52),
+        (2029, 1, 2030, 1),
+        (2030, 1, 2031, 1),
+    ];
+    let mut year = 1970;
+    for (first_year, first_week, last_year, last_week) in rows {
+        let first = NaiveDate::from_ymd_opt(year, 1, 1).ok_or("no date")?;
+        let last = NaiveDate::from_ymd_opt(year, 12, 31).ok_or("no date")?;
+        assert_eq!(rt;
+            (first.iso_week().year(), first.iso_week().week()),
+            (first_year, first_week)
+        );
+        assert_eq!(rt;
+            (last.iso_week().year(), last.iso_week().week()),
+            (last_year, last_week)
+        );
+        year = last.year() + 1;
+    }
+    Ok(())
+}
+
+#[test]
+fn dates_are_written_with_dashes(rt: HostRuntime) -> Result<(), Fail> {
+    let rows = [
+        (-1, "-0001-01-01"),
+        (0, "0000-01-01"),
+        (33, "0033-01-01"),
+        (9999, "9999-01-01"),
+        (10_000, "+10000-01-01"),
+        (-262_143, "-262143-01-01"),
+    ];
+    for (year, text) in rows {
+        let date = NaiveDate::from_ymd_opt(year, 1, 1).ok_or("no date")?;
+        let shown = format!(in rt.alloc(); "{date} {date:?}")?;
+        let expected = format!(in rt.alloc(); "{text} {text}")?;
+        assert_eq!(rt; shown.as_str(), expected.as_str());
+    }
+    Ok(())
+}
+
+#[test]
+fn parts_are_set_one_by_one(rt: HostRuntime) -> Result<(), Fail> {
+    let leap = NaiveDate::from_ymd_opt(2020, 2, 29).ok_or("no date")?;
+    assert_eq!(rt;
+        (leap.ordinal(), leap.ordinal0(), leap.month0(), leap.day0()),
+        (60, 59, 1, 28)
+    );
+    assert!(rt; leap.with_year(2016) == NaiveDate::from_ymd_opt(2016, 2, 29));
+    assert!(rt; leap.with_year(2019).is_none());
+    let first = NaiveDate::from_ymd_opt(2020, 2, 1).ok_or("no date")?;
+    assert!(rt; first.with_day(29) == Some(leap) && first.with_day0(28) == Some(leap));
+    assert!(rt; first.with_day(30).is_none() && first.with_day(0).is_none());
+    let end = NaiveDate::from_ymd_opt(2020, 1, 31).ok_or("no date")?;
+    let march = NaiveDate::from_ymd_opt(2020, 3, 31);
+    assert!(rt; end.with_month(3) == march && end.with_month0(2) == march);
+    assert!(rt; end.with_month(2).is_none() && end.with_month(13).is_none());
+    let eve = NaiveDate::from_ymd_opt(2020, 12, 31);
+    assert!(rt; leap.with_ordinal(366) == eve && leap.with_ordinal0(365) == eve);
+    let short = NaiveDate::from_ymd_opt(2019, 2, 28).ok_or("no date")?;
+    assert!(rt; short.with_ordinal(366).is_none());
+    let base = NaiveDate::from_ymd_opt(2016, 3, 1).ok_or("no date")?;
+    assert_eq!(rt; leap.years_since(base), Some(3));
+    assert_eq!(rt; base.years_since(leap), None);
+    Ok(())
+}
+
+#[test]
+fn times_have_parts_of_seconds(rt: HostRuntime) -> Result<(), Fail> {
+    let milli = NaiveTime::from_hms_milli_opt(23, 59, 59, 1_999).ok_or("no time")?;
+    let micro = NaiveTime::from_hms_micro_opt(23, 59, 59, 1_999_999).ok_or("no time")?;
+    assert_eq!(rt;
+        (milli.nanosecond(), micro.nanosecond()),
+        (1_999_000_000, 1_999_999_000)
+    );
+    assert!(rt; NaiveTime::from_hms_milli_opt(23, 59, 58, 1_000).is_none());
+    assert!(rt; NaiveTime::from_hms_micro_opt(23, 59, 58, 1_000_000).is_none());
+    Ok(())
+}
+
+#[test]
+fn lengths_are_those_of_std(rt: HostRuntime) -> Result<(), Fail> {
+    assert!(rt; matches!(TimeDelta::seconds(-1).to_std(), Err(OutOfRange)));
+    let length = TimeDelta::new(2, 500_000_000).ok_or("no length")?;
+    let std_length = length.to_std().ok().ok_or("out of range")?;
+    assert_eq!(rt; std_length.as_millis(), 2500);
+    let shown = format!(in rt.alloc(); "{OutOfRange} {OutOfRange:?}")?;
+    assert_eq!(rt; shown.as_str(), "out of range out of range");
+    Ok(())
 }

@@ -48,6 +48,36 @@ impl NaiveTime {
         })
     }
 
+    /// The time of this hour, minute, second and millisecond.
+    ///
+    /// It is `None` exactly where [`from_hms_nano_opt`](NaiveTime::from_hms_nano_opt) is, with 1,000,000 nanoseconds for
+    /// each millisecond: 23:59:59 and 1,999 is a time in a leap second, and 23:59:58 and 1,000 is none.
+    pub fn from_hms_milli_opt(hour: u32, min: u32, sec: u32, milli: u32) -> Option<NaiveTime>
+        ensures some { IsSome result ↔ IsClock hour min sec × IsFraction sec (1000000 * milli) }
+        ensures second { IfSome result (λ time. second_of_day time ≡ clock_second hour min sec) }
+        ensures nanos { IfSome result (λ time. nanos_of_time time ≡ 1000000 * milli) }
+    {
+        if milli >= 2_000 {
+            return None;
+        }
+        NaiveTime::from_hms_nano_opt(hour, min, sec, 1_000_000 * milli)
+    }
+
+    /// The time of this hour, minute, second and microsecond.
+    ///
+    /// It is `None` exactly where [`from_hms_nano_opt`](NaiveTime::from_hms_nano_opt) is, with 1,000 nanoseconds for each
+    /// microsecond: 23:59:59 and 1,999,999 is a time in a leap second, and 23:59:58 and 1,000,000 is none.
+    pub fn from_hms_micro_opt(hour: u32, min: u32, sec: u32, micro: u32) -> Option<NaiveTime>
+        ensures some { IsSome result ↔ IsClock hour min sec × IsFraction sec (1000 * micro) }
+        ensures second { IfSome result (λ time. second_of_day time ≡ clock_second hour min sec) }
+        ensures nanos { IfSome result (λ time. nanos_of_time time ≡ 1000 * micro) }
+    {
+        if micro >= 2_000_000 {
+            return None;
+        }
+        NaiveTime::from_hms_nano_opt(hour, min, sec, 1_000 * micro)
+    }
+
     // The time at this second of the day.
     pub(crate) fn at(second: u32, nanos: u32) -> NaiveTime
         requires in_day { second < 86400 }

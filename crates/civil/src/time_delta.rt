@@ -1,7 +1,10 @@
-ghost use Rattle.std.specs.Prelude.{◌≡◌, ◌<◌, ◌↔◌, ℤ, pos, ◌+ℤ◌, ◌-ℤ◌, int_div, IsSome, IfSome};
+ghost use Rattle.std.specs.Duration.{as_nanos};
+ghost use Rattle.std.specs.Prelude.{◌≡◌, ◌<◌, ◌↔◌, ℤ, pos, ◌+ℤ◌, ◌-ℤ◌, ◌≤ℤ◌, int_div, IsSome, IfSome, IsOk, IfOk};
 ghost use Rattle.civil.specs.Delta.{IsWithin, IsDelta, second_nanos, minute_nanos, hour_nanos, day_nanos, week_nanos};
 
+use crate::out_of_range::OutOfRange;
 use std::marker::Model;
+use std::time;
 
 const MAX_NANOS: i128 = 9_223_372_036_854_775_807_000_000;
 
@@ -138,5 +141,18 @@ impl TimeDelta {
         ensures range { IsWithin 999999999 result }
     {
         (self.nanos % 1_000_000_000) as i32
+    }
+
+    /// The same length as a length of std, to the nanosecond; `OutOfRange` exactly where it is below 0.
+    ///
+    /// 2.5 seconds are 2,500 milliseconds there, and -1 second is out of range.
+    pub fn to_std(&self) -> Result<time::Duration, OutOfRange>
+        ensures ok { IsOk result ↔ pos 0 ≤ℤ self.now }
+        ensures value { IfOk result (λ length. pos (as_nanos length) ≡ self.now) }
+    {
+        if self.nanos < 0 {
+            return Err(OutOfRange);
+        }
+        Ok(time::Duration::from_nanos_u128(self.nanos as u128))
     }
 }

@@ -1,4 +1,4 @@
-use Rattle.std.proofs.Common.{arith, to_z, of_z, w64, ◌+ℤ◌, ◌*ℤ◌, pos}
+use Rattle.std.proofs.Common.{arith}
 use Rattle.civil.proofs.SignedLemmas.{signed_casts}
 use Rattle.civil.proofs.CalendarCycle.{year_in_cycle}
 use Rattle.civil.proofs.calendar.year_near.Goals as goal

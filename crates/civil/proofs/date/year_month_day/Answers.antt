@@ -1,4 +1,4 @@
-use Rattle.std.proofs.Common.{◌≡◌, ℕ, ℤ, pos, ◌+ℤ◌, ◌-◌, to_z, of_z, to_z-of_z, w32, w64, FitsSigned, rules, refl, sym, ap, ◌∙◌, arith}
+use Rattle.std.proofs.Common.{◌≡◌, ℕ, pos, ◌+ℤ◌, ◌-◌, to_z, of_z, to_z-of_z, w32, FitsSigned, rules, refl, sym, ap, ◌∙◌, arith}
 use Rattle.civil.specs.Calendar.{year_start, days_of_months, HoldsDay}
 use Rattle.civil.proofs.SignedLemmas.{signed_arith}
 use Rattle.civil.proofs.DateOfDay.{date_by_parts, moved_date}

@@ -1,4 +1,4 @@
-use Rattle.std.proofs.Common.{◌≡◌, to_z, of_z, w32, w64, ◌∙◌, arith}
+use Rattle.std.proofs.Common.{to_z, of_z, w32, arith}
 use Rattle.civil.proofs.SignedLemmas.{signed_arith}
 use Rattle.civil.proofs.DateOfDay.{moved_date}
 use Rattle.civil.proofs.date.NaiveDateDatelike.year.Goals as goal
