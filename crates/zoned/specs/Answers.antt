@@ -1,5 +1,5 @@
 -- What a zone answers for a wall second.
-use Rattle.std.specs.Prelude.{◌≡◌, Option, Some, None, ℤ, ◌-ℤ◌}
+use Rattle.std.specs.Prelude.{◌≡◌, Bool, true, false, Option, Some, None, ℤ, ◌-ℤ◌}
 use Rattle.civil.specs.Clock.{IsWallSecond}
 use Rattle.civil.specs.Shown.{IsShownOnce, IsShownTwice}
 use Rattle.zoned.specs.Placing.{before, IsSkippedAt}
@@ -73,3 +73,22 @@ abbrev pub latest_of : {A : Type 0} → MappedLocalTime A → Option A
 latest_of Mapped.None = None
 latest_of (Mapped.Single o) = Some o
 latest_of (Mapped.Ambiguous b a) = Some a
+
+-- there is one value
+abbrev pub is_single : {A : Type 0} → MappedLocalTime A → Bool
+is_single Mapped.None = false
+is_single (Mapped.Single o) = true
+is_single (Mapped.Ambiguous b a) = false
+
+-- the one second that w is at these offsets; there is none where they are none or two, or it leaves the calendar
+abbrev pub IsOneMoment : ℤ → MappedLocalTime ℤ → Option ℤ → Type 0
+IsOneMoment w (Mapped.Single o) (Some s) = s ≡ w -ℤ o
+IsOneMoment w (Mapped.Single o) None = ¬ IsWallSecond (w -ℤ o)
+IsOneMoment w Mapped.None r = r ≡ None
+IsOneMoment w (Mapped.Ambiguous b a) r = r ≡ None
+
+-- there is one
+abbrev pub HasOneMoment : ℤ → MappedLocalTime ℤ → Type 0
+HasOneMoment w (Mapped.Single o) = IsWallSecond (w -ℤ o)
+HasOneMoment w Mapped.None = ⊥
+HasOneMoment w (Mapped.Ambiguous b a) = ⊥

@@ -1,12 +1,14 @@
-ghost use Rattle.std.specs.Prelude.{◌≡◌, ℤ, pos, ◌*ℤ◌};
+ghost use Rattle.std.specs.Prelude.{◌≡◌, ℤ, pos, ◌-ℤ◌, ◌*ℤ◌};
 ghost use Rattle.civil.specs.Times.{wall_of, nanos_of};
+ghost use Rattle.zoned.specs.Days.{day_number, date_offset};
 ghost use Rattle.zoned.specs.Moment.{seconds_east, second_of, fraction_of, offset_of};
 ghost use Rattle.zoned.specs.Answers.{IsCivil, mapped_of, civil_map, mapped_map, first_offset, single_of, earliest_of, latest_of, AllCivil, AllMapped, AreMoments};
 ghost use Rattle.zoned.specs.declared.offset.MappedLocalTime.{MappedLocalTime};
 
+use crate::date::Date;
 use crate::datetime::DateTime;
 use crate::fixed::FixedOffset;
-use crate::placing::moments;
+use crate::placing::{days, moments};
 use civil::{NaiveDate, NaiveDateTime};
 
 /// What a wall time has in a zone: no value, one, or an earlier and a later one.
@@ -127,10 +129,30 @@ pub trait TimeZone: Copy {
         ensures zone { zone_of result ≡ self.now }
         ensures value { sound self.now → Self.Offset.seconds result ≡ off self.now (wall_of utc.now) };
 
+    /// The day with each offset that the zone has at its midnight: none where the clock is put forward over midnight, and an
+    /// earlier and a later one where it is put back over it. `Utc` has 2000-01-01 once.
+    final fn from_local_date(&self, day: &NaiveDate) -> MappedLocalTime<Date<Self>>
+        ensures days { AllMapped (λ d. day_number d ≡ day.now) result }
+        ensures zone { AllMapped (λ d. zone_of (date_offset d) ≡ self.now) result }
+        ensures offsets { sound self.now → mapped_map (λ d. Self.Offset.seconds (date_offset d)) result ≡ Self.local self.now (pos 86400 *ℤ day.now) }
+    {
+        days::<Self>(day, self.offset_from_local_date(day))
+    }
+
+    /// The day with the zone's offset at its midnight in UTC. 2000-01-01 at +01:00 is `2000-01-01+01:00`.
+    final fn from_utc_date(&self, utc: &NaiveDate) -> Date<Self>
+        ensures day { day_number result ≡ utc.now }
+        ensures zone { zone_of (date_offset result) ≡ self.now }
+        ensures offset { sound self.now → Self.Offset.seconds (date_offset result) ≡ off self.now (pos 86400 *ℤ utc.now) }
+    {
+        Date::from_utc(*utc, self.offset_from_utc_date(utc))
+    }
+
     /// The moments of a wall time; there are none also where one leaves the calendar.
     final fn from_local_datetime(&self, wall: &NaiveDateTime) -> MappedLocalTime<DateTime<Self>>
         ensures zone { AllMapped (λ d. zone_of (offset_of d) ≡ self.now) result }
         ensures fraction { AllMapped (λ d. fraction_of d ≡ nanos_of wall.now) result }
+        ensures offsets { AllMapped (λ d. Self.Offset.seconds (offset_of d) ≡ wall_of wall.now -ℤ second_of d) result }
         ensures moments { sound self.now → AreMoments (wall_of wall.now) (Self.local self.now (wall_of wall.now)) (mapped_map second_of result) }
     {
         moments::<Self>(wall, self.offset_from_local_datetime(wall))

@@ -2,13 +2,15 @@
 ghost use Rattle.std.specs.Prelude.{◌≡◌, ◌↔◌, ℤ, pos, ◌-ℤ◌, IsSome, IfSome, IfNone};
 ghost use Rattle.civil.specs.Clock.{IsWallSecond};
 ghost use Rattle.civil.specs.Times.{wall_of, nanos_of};
+ghost use Rattle.zoned.specs.Days.{day_number, date_offset};
 ghost use Rattle.zoned.specs.Moment.{second_of, fraction_of, offset_of};
 ghost use Rattle.zoned.specs.Answers.{mapped_map, civil_map, first_offset, AllCivil, AllMapped, AreMoments, IsCivil};
 ghost use Rattle.zoned.specs.Placing.{IsPlaced};
 
+use crate::date::Date;
 use crate::datetime::DateTime;
 use crate::offset::{Civil, CivilOffset, MappedLocalTime, Offset, TimeZone};
-use civil::NaiveDateTime;
+use civil::{NaiveDate, NaiveDateTime};
 
 // The moment that a wall time is at an offset.
 fn moment_at<Tz: TimeZone>(wall: &NaiveDateTime, offset: Tz::Offset) -> Option<DateTime<Tz>>
@@ -28,6 +30,7 @@ pub(crate) fn moments<Tz: TimeZone>(
 ) -> MappedLocalTime<DateTime<Tz>>
     ensures moments { AreMoments (wall_of wall.now) (mapped_map Tz.Offset.seconds offsets) (mapped_map second_of result) }
     ensures fraction { AllMapped (λ d. fraction_of d ≡ nanos_of wall.now) result }
+    ensures offsets { AllMapped (λ d. Tz.Offset.seconds (offset_of d) ≡ wall_of wall.now -ℤ second_of d) result }
     ensures zone { (zone : Tz) → AllMapped (λ o. Tz.zone_of o ≡ zone) offsets → AllMapped (λ d. Tz.zone_of (offset_of d) ≡ zone) result }
 {
     match offsets {
@@ -42,6 +45,25 @@ pub(crate) fn moments<Tz: TimeZone>(
                 _ => MappedLocalTime::None,
             }
         }
+    }
+}
+
+// A day with each of its offsets.
+pub(crate) fn days<Tz: TimeZone>(
+    day: &NaiveDate,
+    offsets: MappedLocalTime<Tz::Offset>,
+) -> MappedLocalTime<Date<Tz>>
+    ensures days { AllMapped (λ d. day_number d ≡ day.now) result }
+    ensures offsets { mapped_map (λ d. Tz.Offset.seconds (date_offset d)) result ≡ mapped_map Tz.Offset.seconds offsets }
+    ensures zone { (zone : Tz) → AllMapped (λ o. Tz.zone_of o ≡ zone) offsets → AllMapped (λ d. Tz.zone_of (date_offset d) ≡ zone) result }
+{
+    match offsets {
+        MappedLocalTime::None => MappedLocalTime::None,
+        MappedLocalTime::Single(offset) => { MappedLocalTime::Single(Date::from_utc(*day, offset)) }
+        MappedLocalTime::Ambiguous(before, after) => MappedLocalTime::Ambiguous(
+            Date::from_utc(*day, before),
+            Date::from_utc(*day, after),
+        ),
     }
 }
 

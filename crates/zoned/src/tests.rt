@@ -1,8 +1,11 @@
+ghost use Rattle.std.specs.Prelude.{◌≡◌, pos};
+ghost use Rattle.zoned.specs.Days.{day_number};
+
 use crate::{
-    Civil, CivilOffset, DateTime, FixedOffset, MappedLocalTime, TimeZone, Utc, placed,
+    Civil, CivilOffset, Date, DateTime, FixedOffset, MappedLocalTime, TimeZone, Utc, placed,
     placed_at_offset,
 };
-use civil::{NaiveDate, NaiveDateTime, TimeDelta};
+use civil::{Datelike, NaiveDate, NaiveDateTime, TimeDelta};
 use std::test::Fail;
 
 fn wall(second: i64) -> Result<NaiveDateTime, Fail> {
@@ -77,5 +80,76 @@ fn wall_times_are_placed(rt: HostRuntime) -> Result<(), Fail> {
         )
     );
     assert!(rt; matches!(Utc.civil(&wall(0)?), CivilOffset::Single(_)));
+    Ok(())
+}
+
+// 2000-01-01 in UTC
+fn new_year() -> Date<Utc>
+    ensures { day_number result ≡ pos 10957 }
+{
+    match NaiveDate::from_day(10_957) {
+        Some(date) => Date::from_utc(date, Utc),
+        None => unreachable!(),
+    }
+}
+
+#[test]
+fn days_are_written(rt: HostRuntime) -> Result<(), Fail> {
+    let later = new_year() + TimeDelta::days(5);
+    let text = format!(in rt.alloc(); "{later} {later:?}")?;
+    assert_eq!(rt; text.as_str(), "2000-01-06UTC 2000-01-06Z");
+    let plus1 = FixedOffset::east_opt(3600).ok_or("no offset")?;
+    let there = new_year().with_timezone(&plus1);
+    let text = format!(in rt.alloc(); "{there}")?;
+    assert_eq!(rt; text.as_str(), "2000-01-01+01:00");
+    let first = Date::<Utc>::min_utc();
+    let text = format!(in rt.alloc(); "{first}")?;
+    assert_eq!(rt; text.as_str(), "-262143-01-01UTC");
+    assert!(rt; first.pred_opt().is_none() && Date::<Utc>::max_utc().succ_opt().is_none());
+    assert_eq!(rt; (later - new_year()).num_days(), 5);
+    Ok(())
+}
+
+#[test]
+fn days_move_and_compare(rt: HostRuntime) -> Result<(), Fail> {
+    let plus1 = FixedOffset::east_opt(3600).ok_or("no offset")?;
+    let minus2 = FixedOffset::west_opt(7200).ok_or("no offset")?;
+    let mut day = new_year();
+    day += TimeDelta::days(5);
+    assert_eq!(rt; (day.year(), day.month(), day.day()), (2000, 1, 6));
+    assert!(rt; new_year() < day && new_year() != day && !day.same_day(&new_year()));
+    assert!(rt; day.with_timezone(&plus1).same_day(&day));
+    assert!(rt; day.with_timezone(&minus2).same_day(&day));
+    day -= TimeDelta::days(5);
+    assert!(rt; day == new_year());
+    assert!(rt; day.with_timezone(&plus1).same_day(&day));
+    assert!(rt; day.with_timezone(&minus2).same_day(&day));
+    assert!(rt; day.with_timezone(&plus1) == day.with_timezone(&minus2));
+    Ok(())
+}
+
+#[test]
+fn days_have_clock_times(rt: HostRuntime) -> Result<(), Fail> {
+    let date = NaiveDate::from_ymd_opt(2018, 4, 1).ok_or("no date")?;
+    let april: Date<Utc> = Date::from_utc(date, Utc);
+    assert!(rt; april.with_day(31).is_none());
+    let changed = april.with_month0(11).ok_or("no day")?;
+    assert_eq!(rt;
+        (changed.year(), changed.month(), changed.day()),
+        (2018, 12, 1)
+    );
+    let noon = april.and_hms_opt(12, 0, 0).ok_or("no moment")?;
+    assert_eq!(rt; noon.timestamp(), 1_522_584_000);
+    assert!(rt; april.and_hms_opt(24, 0, 0).is_none());
+    let leap = april
+        .and_hms_milli_opt(23, 59, 59, 1_999)
+        .ok_or("no moment")?;
+    assert_eq!(rt; leap.timestamp_subsec_nanos(), 1_999_000_000);
+    let plus1 = FixedOffset::east_opt(3600).ok_or("no offset")?;
+    let midnight = new_year()
+        .with_timezone(&plus1)
+        .and_hms_opt(0, 0, 0)
+        .ok_or("no moment")?;
+    assert_eq!(rt; midnight.timestamp(), 946_681_200);
     Ok(())
 }
