@@ -23,6 +23,7 @@ pub mod LeastFaults
 pub mod CheckLaws
 pub mod CheckYears
 pub mod CheckWhole
+pub mod Apart
 pub mod Probes
 pub mod TableEntries
 pub mod TableRanges

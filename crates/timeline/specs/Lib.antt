@@ -10,6 +10,7 @@ pub mod Lookups
 pub mod YearEntries
 pub mod Fault
 pub mod CheckSteps
+pub mod Apart
 pub mod Promises
 pub mod DataView
 pub mod DateView

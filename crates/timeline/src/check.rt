@@ -20,6 +20,8 @@ use std::marker::Brand;
 use std::sync::ledger::{Blank, Ledger};
 use steps::Steps;
 
+mod apart;
+
 /// A transition's second, and the earlier and the later of its walls: its second plus the offset before it, and its
 /// second plus its own. In 128 bits no wall wraps.
 #[derive(Clone, Copy)]
@@ -207,7 +209,7 @@ fn table_fault<L: Ledger>(
     least
 }
 
-/// The same; the steps go to the caller's ledger.
+/// The same, at once where the table shows that it breaks none; the steps go to the caller's ledger.
 fn table_fault_from<L: Ledger>(
     zone: &ZoneData,
     limit: Option<i64>,
@@ -219,6 +221,9 @@ fn table_fault_from<L: Ledger>(
     ensures { TellsLeast (TableKeeps zone.now.initial zone.now.table zone.now.early zone.now.late limit) result }
 {
     let mut steps = Steps::<L>::new(blank);
+    if apart::shows_laws(zone, limit, &mut steps) {
+        return Ok(());
+    }
     table_fault(zone, limit, &mut steps)
 }
 

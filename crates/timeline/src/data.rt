@@ -14,6 +14,8 @@ use std::marker::Model;
 use std::sync::ledger::Ledger;
 use steps::Steps;
 
+mod sizes;
+
 /// A zone's data: the seconds of its table, the yearly rule, the pairs of standard offset and extra, the number of the pair
 /// that each second brings, and the links. The first pair holds before all seconds.
 #[derive(Drop)]
@@ -230,7 +232,7 @@ impl ZoneData {
     /// breaks.
     ///
     /// All years of a kind keep the same laws, so it learns one year of each of the 14 kinds, by a step for each, and goes
-    /// through the table once.
+    /// through the table once, or twice where it has 1,500 entries at most and not all of them lie days apart.
     pub fn check<L: Ledger>(&self, steps: &mut Steps<L>) -> Result<(), ZoneFault>
         ensures lawful { IsOk result ↔ IsLawful self.now }
         ensures fault { IfErr result (IsLeastBroken self.now) }
