@@ -32,3 +32,6 @@ pub mod OneHolds
 pub mod Verdicts
 mod ZoneExamples
 pub mod NearestDays
+pub mod Nexts
+pub mod NextYears
+pub mod NextAnswers

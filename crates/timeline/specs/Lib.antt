@@ -8,6 +8,8 @@ pub mod Placement
 pub mod Laws
 pub mod Lookups
 pub mod YearEntries
+pub mod Transitions
+pub mod TransitionSteps
 pub mod Fault
 pub mod CheckSteps
 pub mod Apart

@@ -6,9 +6,9 @@ ghost use Rattle.timeline.specs.Table.{pair_offset};
 use crate::check::least_fault;
 use crate::dates::ZoneRule;
 use crate::fault::ZoneFault;
-use crate::lookups;
 use crate::offset::{Offset, PossibleOffset, Transition, UtcOffset};
 use crate::seconds::Seconds;
+use crate::{lookups, transitions};
 use sqlite_items::Items;
 use std::marker::Model;
 use std::sync::ledger::Ledger;
@@ -174,6 +174,7 @@ impl ZoneData {
     ghost use Rattle.timeline.specs.Fault.{IsLeastBroken};
     ghost use Rattle.timeline.specs.Timeline.{offset_at, table_place};
     ghost use Rattle.timeline.specs.Placement.{IsPlaced};
+    ghost use Rattle.timeline.specs.Transitions.{AnswersNext, AnswersPrev};
     ghost use Rattle.timeline.specs.Lookups.{AnswersWall, IsDateTime, placing};
 
     /// How many transitions of the table are not after a second, where the table rises. It halves the table, and takes a
@@ -226,6 +227,44 @@ impl ZoneData {
             (wall_second (day_of year month day) hour minute second -ℤ (placing result).offset) }
     {
         self.offsets_of_wall(lookups::wall_second(year, month, day, hour, minute, second))
+    }
+
+    /// The earliest transition after a second, of those of the table and of the rule's years; where a change is required,
+    /// the earliest whose offset is another one than that before it. The initial offset is the one before the first.
+    ///
+    /// `None` comes exactly where there is no such transition, in a lawful zone. In a zone that is not lawful it is some
+    /// answer, and nothing is promised.
+    pub fn next_transition(
+        &self,
+        seconds_since_epoch: i64,
+        require_offset_change: bool,
+    ) -> Option<Transition>
+        ensures { IsLawful self.now → AnswersNext self.now seconds_since_epoch require_offset_change result }
+    {
+        transitions::next_transition(self, seconds_since_epoch, require_offset_change)
+    }
+
+    /// The latest transition before a second, or not after it where the second is not taken exactly, of those of the table
+    /// and of the rule's years; where a change is required, the latest of these whose offset is another one than that
+    /// before it. The initial offset is the one before the first.
+    ///
+    /// `None` comes exactly where there is no such transition, in a lawful zone. In a zone that is not lawful it is some
+    /// answer, and nothing is promised.
+    pub fn prev_transition(
+        &self,
+        seconds_since_epoch: i64,
+        seconds_exact: bool,
+        require_offset_change: bool,
+    ) -> Option<Transition>
+        ensures { IsLawful self.now
+            → AnswersPrev self.now seconds_since_epoch seconds_exact require_offset_change result }
+    {
+        transitions::prev_transition(
+            self,
+            seconds_since_epoch,
+            seconds_exact,
+            require_offset_change,
+        )
     }
 
     /// Whether the zone is lawful: whether it keeps the eight laws in every year of its rule. Else the least law that it

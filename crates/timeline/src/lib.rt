@@ -10,6 +10,7 @@ mod lookups;
 mod offset;
 mod rule;
 mod seconds;
+mod transitions;
 
 pub use data::ZoneData;
 pub use dates::{PlacedDates, RuleDate, RuleDates, ZoneRule};
