@@ -2,6 +2,7 @@
 use Rattle.std.proofs.Common.{◌≡◌, inl, inr, ℕ, ◌/◌, List, ◌++◌, Option, Some, None, Result, Ok, Err, IfSome, MatchOption, ℤ, refl, sym, ap, ◌∙◌, subst}
 use Rattle.std.proofs.lemmas.Option.{none-some, same_Some}
 use Rattle.timeline.specs.declared.fault.ZoneFault.{ZoneFault}
+use Rattle.timeline.specs.declared.offset.Offset.{Offset}
 use Rattle.timeline.specs.Zone.{PlainZone}
 use Rattle.timeline.specs.Laws.{IsLawful}
 use Rattle.timeline.specs.Fault.{IsLeastBroken}
@@ -154,14 +155,16 @@ refused_in zones zone base base' dialect phrase e voices same found =
     let B : ℤ → Type 0 = λ b. Tells (IsReplyIn voices zones (from zone dialect phrase b)) (Err e) in
     subst B same (error_told zones (from zone dialect phrase base') e voices found)
 
-pub told_in : (zones : List NamedZone) (zone : List ℕ) (base base' base'' : ℤ) (dialect : Dialect) (phrase : List ℕ) (m : Moment) (t : Tale) (voices : Voices) → base' ≡ base → base'' ≡ base
-    → Finds zones (from zone dialect phrase base') (Ok m) → ((z : PlainZone) → m.offset ≡ offset_at z m.second → IsTale z voices base'' m.second m.nanos t)
+pub told_in : (zones : List NamedZone) (zone : List ℕ) (base base' base'' : ℤ) (dialect : Dialect) (phrase : List ℕ) (m : Moment) (o : Offset) (s : ℤ) (t : Tale) (voices : Voices) → base' ≡ base → base'' ≡ base → s ≡ m.second
+    → Finds zones (from zone dialect phrase base') (Ok m) → ((z : PlainZone) → named zones zone ≡ Some z → IsLawful z → o ≡ offset_at z s)
+    → ((z : PlainZone) → o ≡ offset_at z m.second → IsTale z voices base'' m.second m.nanos t)
     → IsReplyIn voices zones (from zone dialect phrase base) (Told t)
-told_in zones zone base base' base'' dialect phrase m t voices same same' found tale =
+told_in zones zone base base' base'' dialect phrase m o s t voices same same' is found there tale =
     let A : ℤ → Type 0 = λ b. Finds zones (from zone dialect phrase b) (Ok m) in
     let here : IsFound zones (from zone dialect phrase base) m = subst A same found in
     let B : ℤ → Type 0 = λ b. IsTale here.zone voices b m.second m.nanos t in
-    moment_reply zones (from zone dialect phrase base) m voices t here (subst B same' (tale here.zone here.moment.offset))
+    let at = there here.zone here.has_name here.lawful ∙ ap (λ (x : ℤ). offset_at here.zone x) is in
+    moment_reply zones (from zone dialect phrase base) m voices t here (subst B same' (tale here.zone at))
 
 -- the reply to a line that has these fields
 line_reply : (voices : Voices) (zones : List NamedZone) (line : List ℕ) (f : LineFields) (reply : Reply) → Some f ≡ fields_of line → IsReplyIn voices zones f reply → IsReplyTo voices zones line reply

@@ -36,16 +36,16 @@ tale_is z voices base base' s s' n o ahead distance text same is side far words 
     }
 
 -- and as text
-pub moment_text : (voices : Voices) (base base' s s' : ℤ) (n : ℕ) (o : Offset) (ahead : Bool) (distance : ℕ) (old mid new : List ℕ)
+pub moment_text : (voices : Voices) (base base' s s' : ℤ) (n : ℕ) (o : ℤ) (ahead : Bool) (distance : ℕ) (old mid new : List ℕ)
     → base' ≡ base → s' ≡ s → ahead ≡ int_lt (pos 0) (lead base' s' n) → distance ≡ unsigned_abs (lead base' s' n)
-    → mid ≡ old ++ front_text s n o.offset ahead → Adds (IsToldBy (voice_for voices ahead) distance) mid new
+    → mid ≡ old ++ front_text s n o ahead → Adds (IsToldBy (voice_for voices ahead) distance) mid new
     → Adds (IsMomentText voices base (record { second = s; nanos = n; offset = o })) old new
 moment_text voices base base' s s' n o ahead distance old mid new same is side far front told = (
-  front_text s n o.offset ahead ++ told.0,
+  front_text s n o ahead ++ told.0,
   λ z there. (
-    record { seconds = s; micros = n / 1000; offset = o; ahead = ahead; text = told.0 },
-    tale_is z voices base base' s s' n o ahead distance told.0 same is side far told.1 there,
-    refl,
+    record { seconds = s; micros = n / 1000; offset = offset_at z s; ahead = ahead; text = told.0 },
+    tale_is z voices base base' s s' n (offset_at z s) ahead distance told.0 same is side far told.1 refl,
+    ap (λ (x : ℤ). front_text s n x ahead ++ told.0) there,
   ),
-  told.2 ∙ ap (λ (x : List ℕ). x ++ told.0) front ∙ append_assoc old (front_text s n o.offset ahead) told.0,
+  told.2 ∙ ap (λ (x : List ℕ). x ++ told.0) front ∙ append_assoc old (front_text s n o ahead) told.0,
 )

@@ -1,22 +1,21 @@
 -- What a phrase is answered over moments of any kind, as it is said of seconds with their nanoseconds.
-use Rattle.std.proofs.Common.{◌≡◌, ℕ, false, true, List, Option, Some, None, IfSome, Result, Ok, Err, ℤ, refl, sym, ap, ◌∙◌, subst}
+use Rattle.std.proofs.Common.{◌≡◌, ℕ, false, true, List, Option, Some, None, IfSome, IfOk, Result, Ok, Err, ℤ, refl, sym, ap, ◌∙◌, subst}
 use Rattle.interim.specs.declared.errors.DateError.{DateError}
 use Rattle.interim.specs.declared.errors.DateError.TheVariants as errors
 use Rattle.interim.specs.declared.types.DateSpec.{DateSpec}
 use Rattle.interim.specs.declared.types.DateTimeSpec.{DateTimeSpec}
 use Rattle.interim.specs.declared.types.Dialect.{Dialect}
 use Rattle.interim.specs.declared.types.TimeSpec.{TimeSpec}
-use Rattle.timeline.specs.declared.offset.Offset.{Offset}
 use Rattle.timeline.specs.Zone.{PlainZone}
 use Rattle.timeline.specs.Laws.{IsLawful}
-use Rattle.timeline.specs.Timeline.{offset_at}
 use Rattle.zoneinfo64.specs.ZoneOffsets.{off_in}
 use Rattle.interim.specs.Grammar.{parts_of}
 use Rattle.interim.specs.Meaning.{MeansIn}
 use Rattle.interim.specs.Refusal.{AnswersPhrase, IsRefusedAs, civil_days, civil_seconds}
 use Rattle.interim.specs.Tokens.{phrase_tokens}
 use Rattle.tell.specs.Moments.{Says}
-use Rattle.tell.specs.Inside.MomentView.{IsMomentIn, ResolvesTo}
+use Rattle.tell.specs.declared.moment.Moment.{Moment}
+use Rattle.tell.specs.Inside.MomentView.{IsMomentIn, ResolvesTo, moment_view}
 
 -- a refusal stays where what it rests on is another way to say the same
 refused_on : (e : DateError) (date : Option DateSpec) (P Q : Type 0) → (P → Q) → IsRefusedAs false e date P → IsRefusedAs false e date Q
@@ -34,19 +33,19 @@ refused_on errors.UnexpectedTime date P Q f h = h
 abbrev Meanings : Type 1
 Meanings = Option DateSpec → Option TimeSpec → Option (ℤ × ℕ) → Type 0
 
-pub said_err : {T : Type 0} (view : T → ℤ × ℕ) (parts : Result DateTimeSpec DateError) (M N : Meanings) (e : DateError)
+pub said_err : {T U : Type 0} (view : T → ℤ × ℕ) (view' : U → ℤ × ℕ) (parts : Result DateTimeSpec DateError) (M N : Meanings) (e : DateError)
     → ((date : Option DateSpec) (clock : Option TimeSpec) (r : Option (ℤ × ℕ)) → M date clock r → N date clock r)
-    → AnswersPhrase false view parts M (Err e) → AnswersPhrase false (λ moment. moment) parts N (Err e)
-said_err {T} view (Err fault) M N e f h = let same : ◌≡◌ {A = Result T DateError} (Err e) (Err fault) = h in let one : e ≡ fault = cc in ap (λ (x : DateError). Err x) one
-said_err view (Ok parts) M N e f h = refused_on e parts.date (M parts.date parts.time None) (N parts.date parts.time None) (f parts.date parts.time None) h
+    → AnswersPhrase false view parts M (Err e) → AnswersPhrase false view' parts N (Err e)
+said_err {T} {U} view view' (Err fault) M N e f h = let same : ◌≡◌ {A = Result T DateError} (Err e) (Err fault) = h in let one : e ≡ fault = cc in ap (λ (x : DateError). Err x) one
+said_err view view' (Ok parts) M N e f h = refused_on e parts.date (M parts.date parts.time None) (N parts.date parts.time None) (f parts.date parts.time None) h
 
-pub said_ok : {T : Type 0} (view : T → ℤ × ℕ) (parts : Result DateTimeSpec DateError) (M N : Meanings) (m : T) (s : ℤ) (n : ℕ)
+pub said_ok : {T U : Type 0} (view : T → ℤ × ℕ) (view' : U → ℤ × ℕ) (parts : Result DateTimeSpec DateError) (M N : Meanings) (m : T) (m' : U)
     → ((date : Option DateSpec) (clock : Option TimeSpec) (r : Option (ℤ × ℕ)) → M date clock r → N date clock r)
-    → s ≡ (view m).0 → n ≡ (view m).1
-    → AnswersPhrase false view parts M (Ok m) → AnswersPhrase false (λ moment. moment) parts N (Ok (s, n))
-said_ok {T} view (Err fault) M N m s n f e g h = let never : ◌≡◌ {A = Result T DateError} (Ok m) (Err fault) = h in cc
-said_ok view (Ok parts) M N m s n f e g h =
-    let P : ℤ → Type 0 = λ x. N parts.date parts.time (Some (x, n)) in
+    → (view' m').0 ≡ (view m).0 → (view' m').1 ≡ (view m).1
+    → AnswersPhrase false view parts M (Ok m) → AnswersPhrase false view' parts N (Ok m')
+said_ok {T} {U} view view' (Err fault) M N m m' f e g h = let never : ◌≡◌ {A = Result T DateError} (Ok m) (Err fault) = h in cc
+said_ok view view' (Ok parts) M N m m' f e g h =
+    let P : ℤ → Type 0 = λ x. N parts.date parts.time (Some (x, (view' m').1)) in
     let Q : ℕ → Type 0 = λ x. N parts.date parts.time (Some ((view m).0, x)) in
     subst P (sym e) (subst Q (sym g) (f parts.date parts.time (Some (view m)) h))
 
@@ -62,25 +61,21 @@ means_from {Z} off z z' base base' nanos dialect date clock r same moved none me
 
 -- ---- in a zone of a bundle
 
--- what is answered in a zone that is sound where its plain zone is lawful
-abbrev Answered : Option PlainZone → Dialect → ℤ → List ℕ → Result (ℤ × ℕ) DateError → Type 0
-Answered zone dialect base phrase said = IfSome zone IsLawful
-    → AnswersPhrase false (λ moment. moment) (parts_of dialect (phrase_tokens phrase)) (MeansIn (off_in zone) civil_days civil_seconds (base, 0) dialect) said
-
-pub fault_said : (zone : Option PlainZone) (dialect : Dialect) (base base' : ℤ) (phrase : List ℕ) (e : DateError) → base' ≡ base
-    → Answered zone dialect base' phrase (Err e) → IfSome zone (λ z. IsLawful z → ResolvesTo z dialect base phrase (Err e))
+-- what a sound zone answers, as its plain zone, which is lawful, says it
+pub zone_said : (zone : Option PlainZone) (dialect : Dialect) (base base' : ℤ) (phrase : List ℕ) (said : Result Moment DateError) → base' ≡ base
+    → (IfSome zone IsLawful → AnswersPhrase false moment_view (parts_of dialect (phrase_tokens phrase)) (MeansIn (off_in zone) civil_days civil_seconds (base', 0) dialect) said)
+    → (IfSome zone IsLawful → IfOk said (λ m. m.offset ≡ off_in zone m.second))
+    → IfSome zone (λ z. IsLawful z → ResolvesTo z dialect base phrase said)
 unfolding Says
-fault_said None dialect base base' phrase e same h = tt
-fault_said (Some z) dialect base base' phrase e same h = λ lawful.
+zone_said None dialect base base' phrase said same h f = tt
+zone_said (Some z) dialect base base' phrase (Err e) same h f = λ lawful.
     let P : ℤ → Type 0 = λ b. Says z dialect b phrase (Err e) in
-    subst P same (h lawful)
-
-pub moment_said : (zone : Option PlainZone) (dialect : Dialect) (base base' : ℤ) (phrase : List ℕ) (s s' : ℤ) (n : ℕ) (o : Offset) → base' ≡ base → s ≡ s'
-    → Answered zone dialect base' phrase (Ok (s', n)) → IfSome zone (λ z. IsLawful z → o ≡ offset_at z s)
-    → IfSome zone (λ z. IsLawful z → IsMomentIn z dialect base phrase (record { second = s; nanos = n; offset = o }))
-unfolding Says
-moment_said None dialect base base' phrase s s' n o same is h f = tt
-moment_said (Some z) dialect base base' phrase s s' n o same is h f = λ lawful.
-    let P : ℤ → Type 0 = λ b. Says z dialect b phrase (Ok (s', n)) in
-    let Q : ℤ → Type 0 = λ x. Says z dialect base phrase (Ok (x, n)) in
-    record { said = subst Q (sym is) (subst P same (h lawful)); offset = f lawful }
+    let M : ℤ → Meanings = λ b. MeansIn (off_in (Some z)) civil_days civil_seconds (b, 0) dialect in
+    subst P same (said_err moment_view (λ (m : ℤ × ℕ). m) (parts_of dialect (phrase_tokens phrase)) (M base') (M base') e (λ date clock r means. means) (h lawful))
+zone_said (Some z) dialect base base' phrase (Ok m) same h f = λ lawful.
+    let P : ℤ → Type 0 = λ b. Says z dialect b phrase (Ok (m.second, m.nanos)) in
+    let M : ℤ → Meanings = λ b. MeansIn (off_in (Some z)) civil_days civil_seconds (b, 0) dialect in
+    record {
+      said = subst P same (said_ok moment_view (λ (m : ℤ × ℕ). m) (parts_of dialect (phrase_tokens phrase)) (M base') (M base') m (m.second, m.nanos) (λ date clock r means. means) refl refl (h lawful));
+      offset = f lawful;
+    }

@@ -9,6 +9,7 @@ mod fields;
 mod find;
 pub mod laws;
 mod lead;
+mod located;
 mod moment;
 mod program;
 mod reply;

@@ -1,7 +1,5 @@
 //! The moment that a phrase means in a zone.
-ghost use Rattle.std.specs.Prelude.{◌≡◌, ◌<◌, ◌↔◌, false, pos, IsTrue, IfOk, IfSome};
-ghost use Rattle.civil.specs.Clock.{IsWallSecond};
-ghost use Rattle.zoned.specs.Moment.{second_of, fraction_of, offset_of};
+ghost use Rattle.std.specs.Prelude.{◌≡◌, ◌↔◌, false, IsTrue, IfOk, IfSome};
 ghost use Rattle.timeline.specs.Laws.{IsLawful};
 ghost use Rattle.zoneinfo64.specs.ZoneView.{plain_zone};
 ghost use Rattle.interim.specs.Grammar.{parts_of};
@@ -9,20 +7,22 @@ ghost use Rattle.interim.specs.Meaning.{MeansIn};
 ghost use Rattle.interim.specs.Refusal.{AnswersPhrase, civil_days, civil_seconds};
 ghost use Rattle.interim.specs.Tokens.{phrase_tokens};
 ghost use Rattle.tell.specs.Moments.{IsBase};
-ghost use Rattle.tell.specs.Inside.MomentView.{ResolvesTo, IsInCalendar};
+ghost use Rattle.tell.specs.Inside.MomentView.{ResolvesTo, IsInCalendar, moment_view};
+ghost use Rattle.tell.specs.Inside.LocatedView.{second_in, nanos_in, zone_in};
 
+use crate::located::Located;
 use civil::NaiveDateTime;
 use interim::laws::sound_zones_mean;
 use interim::{DateResult, Dialect, parse_date_string};
-use zoned::{Civil, TimeZone};
-use zoneinfo64::{Offset, Zone};
+use zoned::Civil;
+use zoneinfo64::Zone;
 
-/// A second with its nanoseconds, and the zone's offset there.
+/// A second with its nanoseconds, and the zone's offset there, in seconds east of UTC.
 #[derive(Clone, Copy)]
 pub struct Moment {
     pub second: i64,
     pub nanos: u32,
-    pub offset: Offset,
+    pub offset: i32,
 }
 
 const FIRST_BASE: i64 = -377_705_116_800;
@@ -36,35 +36,34 @@ pub fn is_base(base: i64) -> bool
     FIRST_BASE <= base && base <= LAST_BASE
 }
 
-// The base as a moment of the zone.
-fn base_in<Tz: TimeZone>(zone: &Tz, base: i64) -> zoned::DateTime<Tz>
+// The base as a moment of the zone, which is not asked.
+fn base_in<Tz: Civil>(zone: &Tz, base: i64) -> Located<Tz>
     requires { IsBase base }
-    ensures second { second_of result ≡ base }
-    ensures fraction { fraction_of result ≡ 0 }
-    ensures zone { Tz.zone_of (offset_of result) ≡ zone.now }
+    ensures second { second_in result ≡ base }
+    ensures nanos { nanos_in result ≡ 0 }
+    ensures zone { zone_in result ≡ zone.now }
 {
     match NaiveDateTime::from_wall_second(base, 0) {
-        Some(utc) => zone.from_utc_datetime(&utc),
+        Some(utc) => Located::at(zone, utc),
         None => unreachable!(),
     }
 }
 
-// The second and the nanoseconds of the moment that a phrase means in a sound zone from a base, or the phrase's fault.
-fn resolved<Tz: Civil>(
-    zone: &Tz,
-    base: i64,
-    phrase: &str,
-    dialect: Dialect,
-) -> DateResult<(i64, u32)>
+// The moment that a phrase means in a sound zone from a base, or the phrase's fault.
+fn resolved<Tz: Civil>(zone: &Tz, base: i64, phrase: &str, dialect: Dialect) -> DateResult<Moment>
     requires { IsBase base }
-    ensures said { Tz.sound zone.now → AnswersPhrase false (λ m. m) (parts_of dialect (phrase_tokens phrase.now))
+    ensures said { Tz.sound zone.now → AnswersPhrase false moment_view (parts_of dialect (phrase_tokens phrase.now))
         (MeansIn (Tz.off zone.now) civil_days civil_seconds (base, 0) dialect) result }
-    ensures inside { IfOk result (λ m. IsWallSecond m.0) }
-    ensures short { IfOk result (λ m. m.1 < 2000000000) }
+    ensures offset { Tz.sound zone.now → IfOk result (λ m. m.offset ≡ Tz.off zone.now m.second) }
+    ensures inside { IfOk result IsInCalendar }
 {
     sound_zones_mean::<Tz>();
     match parse_date_string(phrase, base_in(zone, base), dialect) {
-        Ok(moment) => Ok((moment.timestamp(), moment.timestamp_subsec_nanos())),
+        Ok(moment) => Ok(Moment {
+            second: moment.second(),
+            nanos: moment.nanos(),
+            offset: moment.seconds_east(),
+        }),
         Err(fault) => Err(fault),
     }
 }
@@ -81,12 +80,5 @@ pub fn moment_of<'a>(
         → ResolvesTo z dialect base phrase.now result) }
     ensures inside { IfOk result IsInCalendar }
 {
-    match resolved(&zone, base, phrase, dialect) {
-        Ok((second, nanos)) => Ok(Moment {
-            second,
-            nanos,
-            offset: zone.for_timestamp(second),
-        }),
-        Err(fault) => Err(fault),
-    }
+    resolved(&zone, base, phrase, dialect)
 }

@@ -65,13 +65,13 @@ fn push_side(out: &mut String, ahead: bool) -> Result<(), AllocError>
 // Appends what stands before the words of a distance.
 fn push_front(out: &mut String, moment: &Moment, ahead: bool) -> Result<(), AllocError>
     ensures { OnOk result (string_bytes out.new ≡ string_bytes out.old
-        ++ front_text moment.now.second moment.now.nanos moment.now.offset.offset ahead) }
+        ++ front_text moment.now.second moment.now.nanos moment.now.offset ahead) }
 {
     push_number(out, moment.second)?;
     push_tab(out)?;
     push_count(out, u64::from(moment.nanos / 1000))?;
     push_tab(out)?;
-    push_number(out, i64::from(moment.offset.offset.seconds()))?;
+    push_number(out, i64::from(moment.offset))?;
     push_tab(out)?;
     push_side(out, ahead)?;
     push_tab(out)?;

@@ -1,6 +1,9 @@
 //! What a phrase tells in a zone: its moment, and the words of its distance from a base.
-ghost use Rattle.std.specs.Prelude.{◌≡◌, ◌/◌, ℤ, List, ℕ, IfOk};
+ghost use Rattle.std.specs.Prelude.{◌≡◌, ◌/◌, ℤ, List, ℕ, Some, IfOk};
 ghost use Rattle.timeline.specs.Zone.{PlainZone};
+ghost use Rattle.timeline.specs.Laws.{IsLawful};
+ghost use Rattle.zoneinfo64.specs.NamedZone.{NamedZone, named};
+ghost use Rattle.zoneinfo64.specs.CheckedZone.{IsChecked};
 ghost use Rattle.zoneinfo64.specs.Bundle.{zones_of_words};
 ghost use Rattle.timeline.specs.Timeline.{offset_at};
 ghost use Rattle.tell.specs.FormatterVoices.{voices_by};
@@ -20,7 +23,8 @@ use interim::{DateError, Dialect};
 use std::alloc::{AllocError, Global};
 use thiserror::Error;
 use timeago::{Formatter, Language};
-use zoneinfo64::{BinaryDeserializerError, ZoneFault, ZoneInfo64};
+use timeline::laws::one_verdict;
+use zoneinfo64::{BinaryDeserializerError, Offset, Zone, ZoneFault, ZoneInfo64};
 
 /// A moment, and how it is told.
 #[derive(Drop)]
@@ -89,14 +93,26 @@ fn words<L: Language>(
     }
 }
 
-// A moment with the words of its distance.
-fn with_words(moment: Moment, ahead: bool, text: String) -> Told
-    ensures { tale_of result ≡ record { seconds = moment.second; micros = moment.nanos / 1000; offset = moment.offset; ahead = ahead; text = string_bytes text } }
+// The offset of a zone with its verdict at a second, where the zone is lawful.
+fn offset_there(zone: Option<Result<Zone<'_>, ZoneFault>>, second: i64) -> Offset
+    ensures { (zones : List NamedZone) (name : List ℕ) (z : PlainZone) → IsChecked zones name zone.entry
+        → named zones name ≡ Some z → IsLawful z → result ≡ offset_at z second }
+{
+    one_verdict();
+    match zone {
+        Some(Ok(zone)) => zone.for_timestamp(second),
+        _ => Offset::default(),
+    }
+}
+
+// A moment with its zone's offset there and the words of its distance.
+fn with_words(moment: Moment, offset: Offset, ahead: bool, text: String) -> Told
+    ensures { tale_of result ≡ record { seconds = moment.second; micros = moment.nanos / 1000; offset = offset; ahead = ahead; text = string_bytes text } }
 {
     let Moment {
         second: seconds,
         nanos,
-        offset,
+        ..
     } = moment;
     let rule_applies = offset.rule_applies;
     let offset = offset.offset.seconds();
@@ -116,17 +132,18 @@ fn tell_moment<L: Language>(
     alloc: Global,
     base: i64,
     moment: Moment,
+    offset: Offset,
     past: &Formatter<L>,
     ahead: &Formatter<L>,
 ) -> Result<Told, AllocError>
     requires base { IsBase base }
     requires inside { IsInCalendar moment }
-    ensures { (z : PlainZone) → moment.offset ≡ offset_at z moment.second → IfOk result (λ told.
+    ensures { (z : PlainZone) → offset ≡ offset_at z moment.second → IfOk result (λ told.
         IsTale z (voices_by L.speech past.now ahead.now) base moment.second moment.nanos (tale_of told)) }
 {
     let lead = lead_from(base, moment.second, moment.nanos);
     let text = words(alloc, lead, past, ahead)?;
-    Ok(with_words(moment, lead.ahead, text))
+    Ok(with_words(moment, offset, lead.ahead, text))
 }
 
 /// Tells a phrase in a zone of a bundle that was read: the moment that it means from the base, in seconds since
@@ -154,11 +171,15 @@ pub fn tell_in<L: Language>(
         dialect,
         phrase,
     };
-    match find(checked(info, zone), &fields) {
-        Ok(moment) => match tell_moment(alloc, base, moment, past, ahead) {
-            Ok(told) => Ok(told),
-            Err(AllocError) => Err(TellError::Memory),
-        },
+    let checked = checked(info, zone);
+    match find(checked, &fields) {
+        Ok(moment) => {
+            let offset = offset_there(checked, moment.second);
+            match tell_moment(alloc, base, moment, offset, past, ahead) {
+                Ok(told) => Ok(told),
+                Err(AllocError) => Err(TellError::Memory),
+            }
+        }
         Err(error) => Err(error),
     }
 }

@@ -4,8 +4,7 @@ use Rattle.civil.specs.Clock.{IsWallSecond}
 use Rattle.timeline.specs.Zone.{PlainZone}
 use Rattle.zoneinfo64.specs.NamedZone.{NamedZone, named}
 use Rattle.timeline.specs.Laws.{IsLawful}
-use Rattle.timeline.specs.Placement.{IsPlaced}
-use Rattle.timeline.specs.Timeline.{offset_at}
+use Rattle.timeline.specs.Placement.{IsPlaced, seconds_at}
 use Rattle.interim.specs.declared.errors.DateError.{DateError}
 use Rattle.interim.specs.declared.types.Dialect.{Dialect}
 use Rattle.interim.specs.PlainForm.{IsPlainForm}
@@ -17,10 +16,14 @@ use Rattle.tell.specs.Moments.{IsBase, Says}
 use Rattle.tell.specs.Voices.{Voices}
 use Rattle.tell.specs.Replies.{Reply, UnknownZone, BadBase, Unlawful, Fault, IsReplyIn}
 
+-- a moment without its offset
+abbrev pub moment_view : Moment → ℤ × ℕ
+moment_view m = (m.second, m.nanos)
+
 -- the phrase says this moment, and this is the zone's offset there
 pub record IsMomentIn (z : PlainZone) (dialect : Dialect) (base : ℤ) (phrase : List ℕ) (m : Moment) : Type 0 where
   pub said : Says z dialect base phrase (Ok (m.second, m.nanos))
-  pub offset : m.offset ≡ offset_at z m.second
+  pub offset : m.offset ≡ seconds_at z m.second
 
 -- a phrase's moment, or its fault
 abbrev pub ResolvesTo : PlainZone → Dialect → ℤ → List ℕ → Result Moment DateError → Type 0

@@ -3,7 +3,7 @@ use Rattle.std.specs.Prelude.{◌≡◌, ℕ, ◌/◌, Bool, List, ◌++◌, ℤ
 use Rattle.std.specs.Fmt.{decimal, signed_decimal}
 use Rattle.timeline.specs.Zone.{PlainZone}
 use Rattle.zoneinfo64.specs.NamedZone.{NamedZone}
-use Rattle.timeline.specs.Timeline.{offset_at}
+use Rattle.timeline.specs.Placement.{seconds_at}
 use Rattle.tell.specs.declared.moment.Moment.{Moment}
 use Rattle.tell.specs.Voices.{Voices}
 use Rattle.tell.specs.Replies.{Reply, Tale, IsTale, IsReplyTo}
@@ -17,7 +17,7 @@ front_text second nanos offset ahead =
 
 -- the text of a moment that is told so in each zone with this offset there
 abbrev pub IsMomentText : Voices → ℤ → Moment → List ℕ → Type 0
-IsMomentText voices base m text = (z : PlainZone) → m.offset ≡ offset_at z m.second
+IsMomentText voices base m text = (z : PlainZone) → m.offset ≡ seconds_at z m.second
     → (t : Tale) × IsTale z voices base m.second m.nanos t × (text ≡ tale_text t)
 
 -- the text of a reply to a line, without an LF

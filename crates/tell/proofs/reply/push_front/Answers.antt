@@ -20,10 +20,10 @@ pub returns : goal.returns
 returns c =
     let second : FitsSigned w64 c.args.moment.now.second = search rules in
     let wide : FitsSigned w64 c.from-2.result = search rules in
-    let narrow : FitsSigned w32 c.seconds.result = search rules in
+    let narrow : FitsSigned w32 c.args.moment.now.offset = search rules in
     eight (string_bytes c.args.out.now) (signed_decimal c.args.moment.now.second) (codes "\t") (decimal (c.args.moment.now.nanos / 1000)) (codes "\t")
-    (signed_decimal c.args.moment.now.offset.offset) (codes "\t") (side_text c.args.ahead) (codes "\t") _ _ _ _ _ _ _ _
+    (signed_decimal c.args.moment.now.offset) (codes "\t") (side_text c.args.ahead) (codes "\t") _ _ _ _ _ _ _ _
     (number _ _ _ _ (to_z-of_z second) c.in_ok-push_number.ensures) c.in_ok-push_tab.ensures
     (count _ _ _ _ c.from.ensures c.in_ok-push_count.ensures) c.in_ok-push_tab-2.ensures
-    (number _ _ _ _ (to_z-of_z wide ∙ c.from-2.ensures ∙ to_z-of_z narrow ∙ c.seconds.ensures) c.in_ok-push_number-2.ensures) c.in_ok-push_tab-3.ensures
+    (number _ _ _ _ (to_z-of_z wide ∙ c.from-2.ensures ∙ to_z-of_z narrow) c.in_ok-push_number-2.ensures) c.in_ok-push_tab-3.ensures
     c.in_ok-push_side.ensures c.in_ok-push_tab-4.ensures
