@@ -1,6 +1,8 @@
 mod GrammarExamples
 pub mod Answered
 pub mod Digits
+pub mod JiffDays
+pub mod JiffInstants
 mod MeaningExamples
 pub mod OneMeaning
 pub mod PlainMeaning

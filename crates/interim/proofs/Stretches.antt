@@ -71,7 +71,7 @@ no_wall_day w never =
 
 -- ---- dates
 
-is_date-of : (y : ℤ) (m d : ℕ) → 1 ≤ m → m ≤ 12 → 1 ≤ d → d ≤ days_in_month y m → is_date y m d ≡ true
+pub is_date-of : (y : ℤ) (m d : ℕ) → 1 ≤ m → m ≤ 12 → 1 ≤ d → d ≤ days_in_month y m → is_date y m d ≡ true
 is_date-of y m d a b c e = rw (le-leb 1 m a, le-leb m 12 b, le-leb 1 d c, le-leb d (days_in_month y m) e) refl
 
 pub is_date-tells : (y : ℤ) (m d : ℕ) → is_date y m d ≡ true → IsMonthDay y m d

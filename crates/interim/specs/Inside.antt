@@ -1,3 +1,4 @@
 -- What serves private contracts alone: no reader needs it to know how a phrase is read, or what it means.
+pub mod Nanoseconds
 pub mod Orders
 pub mod Seen

@@ -2,6 +2,7 @@ pub mod DatePart
 pub mod Grammar
 pub mod Inside
 pub mod Intervals
+pub mod Jiff
 pub mod Laws
 pub mod Meaning
 pub mod MeaningLaws

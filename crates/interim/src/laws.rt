@@ -1,7 +1,12 @@
 //! What holds of the definitions of tokens, parts and meanings.
+ghost use Rattle.std.specs.Prelude.{◌≡◌, false};
+ghost use Rattle.interim.specs.Jiff.{KeepsAnOffset, OneMeaningOverJiff};
 ghost use Rattle.interim.specs.MeaningLaws.{OneMeaning, PlainFormsAreInside, PlainFormsMean, SomeMeaning, SoundMeaning};
 ghost use Rattle.interim.specs.Laws.{TokensAreSound, PartsAreSound, TimesAreSound, PlainFormsAreRead};
 
+use crate::datetime::{Date, DateTime, Time};
+use civil::{NaiveDate, NaiveTime};
+use jiff::{Zoned, civil as jiff_civil};
 use zoned::Civil;
 
 /// The tokens of a phrase stand in order and inside it, and a number is below 10,000.
@@ -49,4 +54,24 @@ pub fn plain_forms_mean()
 /// The wall second of a phrase of the plain form lies inside the calendar, by more than a day.
 pub fn plain_forms_are_inside()
     ensures { PlainFormsAreInside }
+{}
+
+/// In a zone of one offset `jiff` shows and places as any zone with that offset does: a wall time at its one second.
+pub fn jiff_keeps_an_offset()
+    ensures { KeepsAnOffset }
+{}
+
+/// In any zone of `jiff` too, a wall time has one place, and the parts of a phrase mean one moment or have no meaning.
+pub fn parts_mean_one_thing_over_jiff()
+    ensures { OneMeaningOverJiff }
+{}
+
+/// No call over either backend wants memory: so none answers `Refused::Memory`, nor `DateError::Memory`.
+pub fn backends_want_no_memory<Tz: Civil>()
+    ensures date { ⟦<NaiveDate as Date>⟧.memory ≡ false }
+    ensures time { ⟦<NaiveTime as Time>⟧.memory ≡ false }
+    ensures moment { ⟦<zoned::DateTime<Tz> as DateTime>⟧.memory ≡ false }
+    ensures jiff_date { ⟦<jiff_civil::Date as Date>⟧.memory ≡ false }
+    ensures jiff_time { ⟦<jiff_civil::Time as Time>⟧.memory ≡ false }
+    ensures jiff_moment { ⟦<Zoned<'static> as DateTime>⟧.memory ≡ false }
 {}

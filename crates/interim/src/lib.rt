@@ -4,6 +4,7 @@
 mod date_part;
 pub mod datetime;
 mod errors;
+mod jiff_backend;
 pub mod laws;
 mod lexer;
 mod parser;
