@@ -242,3 +242,12 @@ zone-missing es slice zones t are same view missing =
     let here : position (has_text t) es ≡ None = ap (position (has_text t)) (sym same) ∙ sym missing in
     let past : length es ≤ position_or_len (has_text t) es = grind (arith, nat_tests) in
     ap (λ (zs : List NamedZone). named zs t) (sym view) ∙ find_place (zones_of es) es t are.texts ∙ answer_past (zones_of es) es _ past
+
+-- each place of the list has a zone, and only those have
+pub zone-within : (es : List Named) (zones : List NamedZone) (n : ℕ) → AreEntries es → zones_of es ≡ zones → n < length es → IsTrue (is_some (resolved_in zones (slice_get zones n)))
+zone-within es zones n are view lt =
+    subst (λ (zs : List NamedZone). IsTrue (is_some (resolved_in zs (slice_get zs n)))) view (answer_within (zones_of es) es n are.resolved lt)
+
+pub place-within : (zones : List NamedZone) (at : Option NamedZone) (n : ℕ) → at ≡ slice_get zones n → IsTrue (is_some (resolved_in zones at)) → n < length zones
+place-within zones None n is some = let none = some in cc
+place-within zones (Some e) n is some = slice_get_within zones n e (sym is)

@@ -8,7 +8,7 @@ use std::cmp::Ordering;
 use std::marker::Model;
 use std::sync::ledger::Ledger;
 use steps::Steps;
-use timeline::{Offset, PossibleOffset, ZoneData, ZoneFault};
+use timeline::{Offset, PossibleOffset, Transition, ZoneData, ZoneFault};
 
 /// A zone, or the place of one.
 #[derive(Drop)]
@@ -240,6 +240,90 @@ impl<'a> Zone<'a> {
             (λ z. steps.new ≤ steps.old + (2000 + length z.table)) }
     {
         data_of(self.info, self.place).check(steps)
+    }
+}
+
+impl<'a> Zone<'a> {
+    ghost use Rattle.std.specs.Prelude.{IfSome};
+    ghost use Rattle.timeline.specs.Laws.{IsLawful};
+    ghost use Rattle.timeline.specs.Transitions.{AnswersNext, AnswersPrev};
+    ghost use Rattle.zoneinfo64.specs.ZoneView.{plain_zone};
+
+    /// The earliest transition after a second counted from 1970-01-01 00:00:00 UTC, of those of the table and of the rule's
+    /// years; where a change is required, the earliest whose offset is another one than that before it. The initial offset
+    /// is the one before the first.
+    ///
+    /// In a lawful zone `None` comes exactly where there is no such transition. In a zone that is not lawful it is some
+    /// answer, and nothing is promised. Takes no memory.
+    pub fn next_transition(
+        &self,
+        seconds_since_epoch: i64,
+        require_offset_change: bool,
+    ) -> Option<Transition>
+        ensures { IfSome (plain_zone self.now)
+            (λ z. IsLawful z → AnswersNext z seconds_since_epoch require_offset_change result) }
+    {
+        let data = data_of(self.info, self.place);
+        data.next_transition(seconds_since_epoch, require_offset_change)
+    }
+
+    /// The latest transition before a second counted from 1970-01-01 00:00:00 UTC, or not after it where the second is not
+    /// taken exactly, of those of the table and of the rule's years; where a change is required, the latest of these whose
+    /// offset is another one than that before it. The initial offset is the one before the first.
+    ///
+    /// In a lawful zone `None` comes exactly where there is no such transition. In a zone that is not lawful it is some
+    /// answer, and nothing is promised. Takes no memory.
+    pub fn prev_transition(
+        &self,
+        seconds_since_epoch: i64,
+        seconds_exact: bool,
+        require_offset_change: bool,
+    ) -> Option<Transition>
+        ensures { IfSome (plain_zone self.now) (λ z. IsLawful z
+            → AnswersPrev z seconds_since_epoch seconds_exact require_offset_change result) }
+    {
+        let data = data_of(self.info, self.place);
+        data.prev_transition(seconds_since_epoch, seconds_exact, require_offset_change)
+    }
+}
+
+ghost use Rattle.std.specs.Prelude.{◌<◌, ◌≤◌, ◌-◌, min};
+
+/// A place, or the last one of so many.
+fn place_within(place: u16, len: usize) -> u16
+    requires some { 0 < len }
+    requires few { len ≤ 65536 }
+    ensures { result ≡ min place (len - 1) }
+{
+    let last = (len - 1) as u16;
+    if place < last { place } else { last }
+}
+
+impl<'a> Zone<'a> {
+    ghost use Rattle.std.specs.Prelude.{◌<◌, ◌-◌, length, min, IsSome};
+    ghost use Rattle.zoneinfo64.specs.ZoneView.{list_of, place_in, plain_zone};
+
+    /// Its own place in the bundle, counted from 0, and the bundle. An alias has its own place, not that of the zone that it
+    /// stands for.
+    pub fn into_raw_parts(self) -> (u16, &'a ZoneInfo64)
+        ensures place { result.0 ≡ place_in self.entry }
+        ensures within { result.0 < length (list_of self.entry) }
+        ensures list { result.1.now ≡ list_of self.entry }
+    {
+        (self.place, self.info)
+    }
+
+    /// The zone at a place of a bundle, counted from 0; at the last place, where the bundle has none there. An alias is
+    /// replaced by the zone that it stands for, but for its name and region.
+    pub fn from_raw_parts(parts: (u16, &'a ZoneInfo64)) -> Zone<'a>
+        ensures list { list_of result ≡ parts.entry.1.now }
+        ensures place { place_in result ≡ min parts.entry.0 (length parts.entry.1.now - 1) }
+        ensures same { parts.entry.0 < length parts.entry.1.now → place_in result ≡ parts.entry.0 }
+        ensures zone { IsSome (plain_zone result) }
+    {
+        let (place, info) = parts;
+        let place = place_within(place, info.entries.len());
+        Zone { info, place }
     }
 }
 
