@@ -1,4 +1,5 @@
 pub mod LineEnds
+pub mod FieldCuts
 pub mod PlainPhrases
 pub mod SaidMoments
 pub mod MomentTexts

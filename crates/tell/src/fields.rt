@@ -1,9 +1,11 @@
-ghost use Rattle.std.specs.Prelude.{◌≡◌, ◌^◌, ◌<◌, MatchOption, IfSome};
-ghost use Rattle.tell.specs.Fields.{without_cr, cut as cut_of, number_of, base_of, dialect_of, text_fields as fields_of_text, fields_of};
-ghost use Rattle.tell.specs.Inside.FieldsView.{option_view};
+ghost use Rattle.std.specs.Prelude.{◌≡◌, ◌^◌, ◌<◌, MatchOption, IfSome, slice_index, length};
+ghost use Rattle.std.specs.Str.{IsUtf8};
+ghost use Rattle.tell.specs.Fields.{without_cr, cut as cut_of, text_fields as fields_of_text, fields_of};
+ghost use Rattle.tell.specs.Inside.FieldsView.{option_view, number_cut, base_cut, dialect_cut};
 
 use interim::Dialect;
-use std::str::from_utf8;
+use memchr::memchr;
+use std::str::{from_utf8, from_utf8_unchecked};
 
 /// The four fields of a line, borrowed from it.
 #[derive(Clone, Copy)]
@@ -29,60 +31,83 @@ pub fn without_cr(line: &[u8]) -> &[u8]
     if *last == b'\r' { front } else { line }
 }
 
+// The bytes as text; most are ASCII, which is told at once.
+#[inline(always)]
+fn text_of(bytes: &[u8]) -> Option<&str>
+    ensures { MatchOption result (IsUtf8 bytes.now → ⊥) (λ text. (text.now ≡ bytes.now) × IsUtf8 bytes.now) }
+{
+    if bytes.is_ascii() {
+        return Some(unsafe { from_utf8_unchecked(bytes) });
+    }
+    from_utf8(bytes).ok()
+}
+
 // The parts before and after the first tab.
+#[inline(always)]
 fn cut(text: &str) -> Option<(&str, &str)>
     ensures { MatchOption result (cut_of text.now ≡ None) (λ parts. cut_of text.now ≡ Some (parts.0.now, parts.1.now)) }
 {
-    text.split_once('\t')
+    let at = memchr(b'\t', text.as_bytes())?;
+    Some((&text[..at], &text[at + 1..]))
 }
 
-// The number that 1 to 12 digits write.
-fn number(digits: &[u8]) -> Option<u64>
-    ensures value { result ≡ number_of digits.now }
-    ensures small { IfSome result (λ n. n < 10 ^ 12) }
+// The number that 1 to 12 digits write before the first tab, and how many they are.
+#[inline(always)]
+fn number(bytes: &[u8]) -> Option<(u64, usize)>
+    ensures value { MatchOption result (number_cut bytes.now ≡ None) (λ read. number_cut bytes.now ≡ Some (read.0, read.1)) }
+    ensures small { IfSome result (λ read. read.0 < 10 ^ 12) }
+    ensures within { IfSome result (λ read. read.1 < length bytes.now) }
+    ensures tab { IfSome result (λ read. slice_index bytes.now read.1 ≡ 9) }
 {
-    if digits.is_empty() || digits.len() > 12 {
+    let most = bytes.len().min(12);
+    let mut value = 0;
+    let mut count = 0;
+    while count < most && bytes[count].is_ascii_digit() {
+        value = 10 * value + u64::from(bytes[count] - b'0');
+        count += 1;
+    }
+    if count == 0 || count == bytes.len() || bytes[count] != b'\t' {
         return None;
     }
-    let mut value = 0;
-    for digit in digits {
-        if !digit.is_ascii_digit() {
-            return None;
-        }
-        value = 10 * value + u64::from(digit - b'0');
-    }
-    Some(value)
+    Some((value, count))
 }
 
-fn read_dialect(text: &str) -> Option<Dialect>
-    ensures { result ≡ dialect_of text.now }
+// A number before the first tab, perhaps with a minus sign, and what follows the tab.
+#[inline(never)]
+fn base(text: &str) -> Option<(i64, &str)>
+    ensures { MatchOption result (base_cut text.now ≡ None) (λ read. base_cut text.now ≡ Some (read.0, read.1.now)) }
 {
     match text.as_bytes() {
-        b"uk" => Some(Dialect::Uk),
-        b"us" => Some(Dialect::Us),
+        [b'-', digits @ ..] => {
+            let (number, count) = number(digits)?;
+            Some((-(number as i64), &text[count + 2..]))
+        }
+        digits => {
+            let (number, count) = number(digits)?;
+            Some((number as i64, &text[count + 1..]))
+        }
+    }
+}
+
+// A dialect before the first tab, and what follows the tab.
+#[inline(always)]
+fn dialect(text: &str) -> Option<(Dialect, &str)>
+    ensures { MatchOption result (dialect_cut text.now ≡ None) (λ read. dialect_cut text.now ≡ Some (read.0, read.1.now)) }
+{
+    match text.as_bytes() {
+        [b'u', b'k', b'\t', ..] => Some((Dialect::Uk, &text[3..])),
+        [b'u', b's', b'\t', ..] => Some((Dialect::Us, &text[3..])),
         _ => None,
     }
 }
 
-// A number, perhaps with a minus sign.
-fn base(text: &str) -> Option<i64>
-    ensures { result ≡ base_of text.now }
-{
-    match text.as_bytes() {
-        [b'-', digits @ ..] => Some(-(number(digits)? as i64)),
-        digits => Some(number(digits)? as i64),
-    }
-}
-
-#[tactic(auto, unfolding(crate::specs::Fields::text_fields))]
+#[inline(always)]
 fn text_fields(text: &str) -> Option<Fields<'_>>
     ensures { option_view result ≡ fields_of_text text.now }
 {
     let (zone, rest) = cut(text)?;
-    let (base_text, rest) = cut(rest)?;
-    let base = base(base_text)?;
-    let (dialect_text, phrase) = cut(rest)?;
-    let dialect = read_dialect(dialect_text)?;
+    let (base, rest) = base(rest)?;
+    let (dialect, phrase) = dialect(rest)?;
     Some(Fields {
         zone,
         base,
@@ -101,9 +126,9 @@ pub fn split_fields(line: &[u8]) -> Option<Fields<'_>>
     if line.len() > LONGEST_LINE {
         return None;
     }
-    match from_utf8(without_cr(line)) {
-        Ok(text) => text_fields(text),
-        Err(_) => None,
+    match text_of(without_cr(line)) {
+        Some(text) => text_fields(text),
+        None => None,
     }
 }
 

@@ -34,12 +34,11 @@ no_text line none =
 pub returns-then-line-gt-LONGEST_LINE : goal.returns-then-line-gt-LONGEST_LINE
 returns-then-line-gt-LONGEST_LINE c = sym (too_long c.args.line.now c.if-line-gt-LONGEST_LINE.true)
 
-pub returns-in-Ok : goal.returns-in-Ok
-returns-in-Ok c =
-    let utf8 : IsUtf8 (without_cr c.args.line.now) = rw c.without_cr.ensures at c.in-Ok.ensures.cases.1 in
-    let text : c.in-Ok.text.now ≡ without_cr c.args.line.now = c.in-Ok.ensures.cases.0 ∙ c.without_cr.ensures in
+pub returns-in-Some : goal.returns-in-Some
+returns-in-Some c =
+    let utf8 : IsUtf8 (without_cr c.args.line.now) = rw c.without_cr.ensures at c.in-Some.ensures.1 in
+    let text : c.in-Some.text.now ≡ without_cr c.args.line.now = c.in-Some.ensures.0 ∙ c.without_cr.ensures in
     c.text_fields.ensures ∙ ap text_fields text ∙ sym (of_text c.args.line.now c.if-line-gt-LONGEST_LINE.false utf8)
 
-pub returns-in-Err : goal.returns-in-Err
-returns-in-Err c =
-    sym (no_text c.args.line.now (λ utf8. c.in-Err.ensures.cases.0 (rw c.without_cr.ensures utf8)))
+pub returns-in-None : goal.returns-in-None
+returns-in-None c = sym (no_text c.args.line.now (λ utf8. c.in-None.ensures (rw c.without_cr.ensures utf8)))
