@@ -1,15 +1,15 @@
 //! The reply to a line of dates, as text.
-ghost use Rattle.std.specs.Prelude.{◌≡◌, ◌++◌, IsSome, Some, OnOk, codes};
+ghost use Rattle.std.specs.Prelude.{◌≡◌, ◌++◌, IsSome, Some, OnOk};
 ghost use Rattle.std.specs.Fmt.{decimal, signed_decimal};
 ghost use Rattle.std.specs.String.{string_bytes};
 ghost use Rattle.tongues.specs.Any.{any_speech};
 ghost use Rattle.timeago.specs.Appended.{Adds};
 ghost use Rattle.tell.specs.Moments.{IsBase};
 ghost use Rattle.tell.specs.Replies.{Reply, Unlawful};
-ghost use Rattle.tell.specs.ReplyTexts.{IsReply, reply_text, side_text};
+ghost use Rattle.tell.specs.ReplyTexts.{IsReply, reply_text};
 ghost use Rattle.tell.specs.Voices.{voices_of};
 ghost use Rattle.tell.specs.Inside.MomentView.{IsInCalendar, refusal};
-ghost use Rattle.tell.specs.Inside.ReplyParts.{front_text, IsMomentText, IsAnswer};
+ghost use Rattle.tell.specs.Inside.ReplyParts.{tabbed_count, tabbed_side, front_text, IsMomentText, IsAnswer};
 
 use crate::fields::split_fields;
 use crate::find::find;
@@ -23,6 +23,7 @@ use std::fmt::Write;
 use zoneinfo64::{CheckedZones, ZoneFault};
 
 // Appends a number.
+#[inline(always)]
 fn push_number(out: &mut String, number: i64) -> Result<(), AllocError>
     ensures { OnOk result (string_bytes out.new ≡ string_bytes out.old ++ signed_decimal number) }
 {
@@ -40,41 +41,39 @@ fn push_count(out: &mut String, count: u64) -> Result<(), AllocError>
     Ok(())
 }
 
-// Appends a tab.
+// Appends a count between two tabs; most are 0.
 #[inline(always)]
-fn push_tab(out: &mut String) -> Result<(), AllocError>
-    ensures { OnOk result (string_bytes out.new ≡ string_bytes out.old ++ codes "\t") }
+fn push_tabbed(out: &mut String, count: u64) -> Result<(), AllocError>
+    ensures { OnOk result (string_bytes out.new ≡ string_bytes out.old ++ tabbed_count count) }
 {
+    if count == 0 {
+        out.push_str("\t0\t")?;
+        return Ok(());
+    }
+    out.push('\t')?;
+    push_count(out, count)?;
     out.push('\t')?;
     Ok(())
 }
 
-// Appends on which side of the base a moment is.
+// On which side of the base a moment is, between two tabs.
 #[inline(always)]
-fn push_side(out: &mut String, ahead: bool) -> Result<(), AllocError>
-    ensures { OnOk result (string_bytes out.new ≡ string_bytes out.old ++ side_text ahead) }
+fn tabbed_side(ahead: bool) -> &'static str
+    ensures { result.now ≡ tabbed_side ahead }
 {
-    if ahead {
-        out.push('+')?;
-    } else {
-        out.push('-')?;
-    }
-    Ok(())
+    if ahead { "\t+\t" } else { "\t-\t" }
 }
 
 // Appends what stands before the words of a distance.
+#[inline(never)]
 fn push_front(out: &mut String, moment: &Moment, ahead: bool) -> Result<(), AllocError>
     ensures { OnOk result (string_bytes out.new ≡ string_bytes out.old
         ++ front_text moment.now.second moment.now.nanos moment.now.offset ahead) }
 {
     push_number(out, moment.second)?;
-    push_tab(out)?;
-    push_count(out, u64::from(moment.nanos / 1000))?;
-    push_tab(out)?;
+    push_tabbed(out, u64::from(moment.nanos / 1000))?;
     push_number(out, i64::from(moment.offset))?;
-    push_tab(out)?;
-    push_side(out, ahead)?;
-    push_tab(out)?;
+    out.push_str(tabbed_side(ahead))?;
     Ok(())
 }
 
