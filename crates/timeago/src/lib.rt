@@ -5,6 +5,7 @@ mod codes;
 mod five_chars;
 mod formatter;
 pub mod laws;
+mod moments;
 mod pieces;
 mod rest;
 mod style;

@@ -6,6 +6,7 @@ use crate::codes::from_isolang;
 use crate::five_chars::format_5chars;
 use crate::formatter::Formatter;
 use crate::style::{Style, format};
+use civil::{NaiveDate, NaiveTime};
 use std::alloc::{AllocError, Global};
 use std::process::Abort;
 use std::test::Fail;
@@ -16,6 +17,7 @@ use tongues::languages::german::German;
 use tongues::languages::japanese::Japanese;
 use tongues::languages::russian::Russian;
 use tongues::{AnyLanguage, BoxedLanguage, Language, Layout, TimeUnit};
+use zoned::{DateTime, FixedOffset, TimeZone, Utc};
 
 // A language whose words and spaces are all empty.
 #[derive(Clone, Copy)]
@@ -254,5 +256,36 @@ fn languages_of_codes(rt: HostRuntime) -> Result<(), Fail> {
     assert!(rt; from_isolang("eu").is_none());
     assert!(rt; from_isolang("EN").is_none());
     assert!(rt; from_isolang("").is_none());
+    Ok(())
+}
+
+// a whole hour of December 2013 at an offset of so many seconds
+fn december(day: u32, hour: u32, east: i32) -> Result<DateTime<FixedOffset>, Fail> {
+    let offset = FixedOffset::east_opt(east).ok_or("no offset")?;
+    let date = NaiveDate::from_ymd_opt(2013, 12, day).ok_or("no date")?;
+    let time = NaiveTime::from_hms_opt(hour, 0, 0).ok_or("no time")?;
+    let wall = date.and_time(time);
+    Ok(
+        offset
+            .from_local_datetime(&wall)
+            .single()
+            .ok_or("no moment")?,
+    )
+}
+
+#[test]
+fn times_between_moments_are_told(rt: HostRuntime) -> Result<(), Fail> {
+    let mut formatter = Formatter::new();
+    formatter.num_items(2);
+    let from = december(19, 15, 10_800)?;
+    let to = december(23, 17, 10_800)?;
+    let text = formatter.convert_chrono(rt.alloc(), from, to)?;
+    assert_eq!(rt; text.as_str(), "4 days 2 hours ago");
+    let text = formatter.convert_chrono(rt.alloc(), to, from)?;
+    assert_eq!(rt; text.as_str(), "???");
+    let text = formatter.convert_chrono(rt.alloc(), from, to.with_timezone(&Utc))?;
+    assert_eq!(rt; text.as_str(), "4 days 2 hours ago");
+    let text = formatter.convert_chrono(rt.alloc(), from, from)?;
+    assert_eq!(rt; text.as_str(), "now");
     Ok(())
 }
