@@ -1,5 +1,5 @@
 //! What phrases are resolved over: dates, times of a day, and moments in a zone.
-ghost use Rattle.std.specs.Prelude.{◌≡◌, ℕ, ℤ, pos, negsuc, ◌+ℤ◌, ◌≤ℤ◌, Bool, false, IsTrue, Some, None, IfOk, IsErrOf};
+ghost use Rattle.std.specs.Prelude.{◌≡◌, ℕ, ℤ, pos, negsuc, ◌+ℤ◌, ◌≤ℤ◌, Bool, false, IsTrue, Some, None, IsSome, IfSome, IfOk, IsErrOf};
 ghost use Rattle.std.specs.Ordering.{int_cmp};
 ghost use Rattle.civil.specs.Calendar.{weekday_of};
 ghost use Rattle.civil.specs.Months.{months_on};
@@ -106,6 +106,17 @@ pub trait DateTime: Sized + Drop {
             (Lands (may_place tz) seconds
             (Some (aim None (Self.Date.number date) (Self.Time.time time)))) }
         ensures zone { IfOk result (λ d. Self.zone d ≡ tz) };
+
+    /// The zone, where it is known that its wall time at the moment is one of the calendar; `None` says nothing.
+    ///
+    /// A backend that knows this without asking the zone tells it, and the rest need not.
+    fn zone_if_inside(&self) -> Option<Self::TimeZone>
+        ensures zone { IfSome result (λ tz. tz ≡ Self.zone self.now) }
+        ensures inside { IsSome result → (wall : Wall) × IsWallAt (may_show (Self.zone self.now)) (moment self.now) wall
+            × IsTrue (is_within Self.Date.calendar wall.day) }
+    {
+        None
+    }
 
     /// The zone, the date and the time that the zone shows at the moment.
     fn split(self) -> Result<(Self::TimeZone, Self::Date, Self::Time), Refused>

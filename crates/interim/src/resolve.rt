@@ -1,5 +1,5 @@
 //! What the parts of a phrase mean, over any backend.
-ghost use Rattle.std.specs.Prelude.{◌≡◌, ◌-◌, ◌/◌, ◌%◌, ℕ, ℤ, pos, ◌+ℤ◌, ◌*ℤ◌, ◌≤ℤ◌, negsuc, Option, Some, IfOk};
+ghost use Rattle.std.specs.Prelude.{◌≡◌, ◌-◌, ◌/◌, ◌%◌, ℕ, ℤ, pos, ◌+ℤ◌, ◌*ℤ◌, ◌≤ℤ◌, negsuc, Option, Some, IfOk, option_and_then};
 ghost use Rattle.std.specs.declared.cmp.Ordering.{Ordering};
 ghost use Rattle.std.specs.Ordering.{is_eq};
 ghost use Rattle.interim.specs.Grammar.{parts_of};
@@ -228,6 +228,23 @@ fn named_day<Dt: DateTime>(
     }
 }
 
+// The clock time on the date that is written out, or else midnight.
+fn on_date<Dt: DateTime>(
+    tz: Dt::TimeZone,
+    written: AbsDate,
+    clock: Option<TimeSpec>,
+) -> Result<Dt, Refused>
+    ensures moment { Answers Dt.memory (λ d. Dt.moment d) result (λ r.
+        (found : Option Aim)
+        × (found ≡ option_and_then (clock_or Dt.Date.calendar midnight clock)
+        (date_at Dt.Date.calendar written.year written.month written.day))
+        × Lands (Dt.may_place tz) Dt.seconds found r) }
+    ensures zone { IfOk result (λ d. Dt.zone d ≡ tz) }
+{
+    let day = written.into_date()?;
+    clock_or_midnight(tz, day, clock)
+}
+
 // The moment of a date part, that is no interval of seconds, from the base's wall time.
 fn from_wall<Dt: DateTime>(
     tz: Dt::TimeZone,
@@ -247,10 +264,7 @@ fn from_wall<Dt: DateTime>(
     ensures zone { IfOk result (λ d. Dt.zone d ≡ tz) }
 {
     match spec {
-        DateSpec::Absolute(written) => {
-            let day = written.into_date()?;
-            clock_or_midnight(tz, day, clock)
-        }
+        DateSpec::Absolute(written) => on_date(tz, written, clock),
         DateSpec::Relative(Interval::Seconds(_)) => unreachable!(),
         DateSpec::Relative(Interval::Days(count)) => {
             let day = date.offset_days(count as i64)?;
@@ -264,6 +278,42 @@ fn from_wall<Dt: DateTime>(
             let day = named_day::<Dt>(name, date, time, clock, dialect, direction)?;
             clock_or_midnight(tz, day, clock)
         }
+    }
+}
+
+// The same from the base, which is split.
+fn from_base<Dt: DateTime>(
+    base: Dt,
+    spec: DateSpec,
+    clock: Option<TimeSpec>,
+    dialect: Dialect,
+) -> Result<Dt, Refused>
+    requires { IsFromWall spec }
+    ensures moment { Answers Dt.memory (λ d. Dt.moment d) result
+        (Means (Dt.may_show (Dt.zone base)) (Dt.may_place (Dt.zone base))
+        Dt.Date.calendar Dt.seconds (Dt.moment base) dialect (Some spec) clock) }
+    ensures zone { IfOk result (λ d. Dt.zone d ≡ Dt.zone base) }
+{
+    let (tz, date, time) = base.split()?;
+    from_wall(tz, date, time, spec, clock, dialect)
+}
+
+// The moment of a date that is written out. It needs of the base that its wall time is one of the calendar: only where this is
+// not known is the base split.
+fn written_out<Dt: DateTime>(
+    base: Dt,
+    written: AbsDate,
+    clock: Option<TimeSpec>,
+    dialect: Dialect,
+) -> Result<Dt, Refused>
+    ensures moment { Answers Dt.memory (λ d. Dt.moment d) result
+        (Means (Dt.may_show (Dt.zone base)) (Dt.may_place (Dt.zone base))
+        Dt.Date.calendar Dt.seconds (Dt.moment base) dialect (Some (DateSpec.Absolute written)) clock) }
+    ensures zone { IfOk result (λ d. Dt.zone d ≡ Dt.zone base) }
+{
+    match base.zone_if_inside() {
+        Some(tz) => on_date(tz, written, clock),
+        None => from_base(base, DateSpec::Absolute(written), clock, dialect),
     }
 }
 
@@ -285,8 +335,10 @@ impl DateSpec {
         if let DateSpec::Relative(Interval::Seconds(count)) = self {
             return base.offset_seconds(count as i64);
         }
-        let (tz, date, time) = base.split()?;
-        from_wall(tz, date, time, self, ts, dialect)
+        if let DateSpec::Absolute(written) = self {
+            return written_out(base, written, ts, dialect);
+        }
+        from_base(base, self, ts, dialect)
     }
 }
 

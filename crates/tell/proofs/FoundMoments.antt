@@ -1,5 +1,5 @@
 -- What is found for the fields of a line, and the reply that is made of it.
-use Rattle.std.proofs.Common.{◌≡◌, inl, inr, ℕ, ◌/◌, List, ◌++◌, Option, Some, None, Result, Ok, Err, IfSome, MatchOption, ℤ, refl, sym, ap, ◌∙◌, subst}
+use Rattle.std.proofs.Common.{◌≡◌, inl, inr, ℕ, List, ◌++◌, Option, Some, None, Result, Ok, Err, IfSome, MatchOption, ℤ, refl, sym, ap, ◌∙◌, subst}
 use Rattle.std.proofs.lemmas.Option.{none-some, same_Some}
 use Rattle.timeline.specs.declared.fault.ZoneFault.{ZoneFault}
 use Rattle.timeline.specs.declared.offset.Offset.{Offset}

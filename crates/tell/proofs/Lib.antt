@@ -1,6 +1,7 @@
 pub mod LineEnds
 pub mod FieldCuts
 pub mod PlainPhrases
+pub mod NearWalls
 pub mod SaidMoments
 pub mod MomentTexts
 pub mod FoundMoments

@@ -1,13 +1,12 @@
 -- How a moment is told: on which side of the base it is, how far, and in which words.
-use Rattle.std.proofs.Common.{◌≡◌, ℕ, ◌/◌, Bool, List, ◌++◌, append_assoc, int_lt, ℤ, pos, ◌+ℤ◌, ◌-ℤ◌, ◌*ℤ◌, unsigned_abs, refl, sym, ap, ◌∙◌, subst, arith}
+use Rattle.std.proofs.Common.{◌≡◌, ℕ, ◌/◌, Bool, List, ◌++◌, append_assoc, int_lt, ℤ, pos, ◌+ℤ◌, ◌*ℤ◌, unsigned_abs, refl, ap, ◌∙◌, subst, arith}
 use Rattle.std.proofs.lemmas.Int.{ints}
 use Rattle.timeago.specs.Appended.{Adds}
 use Rattle.timeline.specs.declared.offset.Offset.{Offset}
 use Rattle.timeline.specs.Zone.{PlainZone}
 use Rattle.timeline.specs.Timeline.{offset_at}
 use Rattle.tell.specs.Voices.{Voices, voice_for, IsToldBy}
-use Rattle.tell.specs.Replies.{Tale, IsTale, lead}
-use Rattle.tell.specs.ReplyTexts.{tale_text}
+use Rattle.tell.specs.Replies.{IsTale, lead}
 use Rattle.tell.specs.Inside.ReplyParts.{front_text, IsMomentText}
 
 -- the lead is the same where nanoseconds are carried over to seconds

@@ -1,5 +1,5 @@
 -- What a phrase is answered over moments of any kind, as it is said of seconds with their nanoseconds.
-use Rattle.std.proofs.Common.{◌≡◌, ℕ, false, true, List, Option, Some, None, IfSome, IfOk, Result, Ok, Err, ℤ, refl, sym, ap, ◌∙◌, subst}
+use Rattle.std.proofs.Common.{◌≡◌, ℕ, false, List, Option, Some, None, IfSome, IfOk, Result, Ok, Err, ℤ, refl, sym, ap, subst}
 use Rattle.interim.specs.declared.errors.DateError.{DateError}
 use Rattle.interim.specs.declared.errors.DateError.TheVariants as errors
 use Rattle.interim.specs.declared.types.DateSpec.{DateSpec}
@@ -15,7 +15,7 @@ use Rattle.interim.specs.Refusal.{AnswersPhrase, IsRefusedAs, civil_days, civil_
 use Rattle.interim.specs.Tokens.{phrase_tokens}
 use Rattle.tell.specs.Moments.{Says}
 use Rattle.tell.specs.declared.moment.Moment.{Moment}
-use Rattle.tell.specs.Inside.MomentView.{IsMomentIn, ResolvesTo, moment_view}
+use Rattle.tell.specs.Inside.MomentView.{ResolvesTo, moment_view}
 
 -- a refusal stays where what it rests on is another way to say the same
 refused_on : (e : DateError) (date : Option DateSpec) (P Q : Type 0) → (P → Q) → IsRefusedAs false e date P → IsRefusedAs false e date Q

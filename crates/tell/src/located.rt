@@ -1,5 +1,5 @@
 //! Moments of a zone whose offset there may not be known yet: the zone is asked for it once, where it is wanted.
-ghost use Rattle.std.specs.Prelude.{◌≡◌, ◌<◌, ◌↔◌, ◌-ℤ◌, IsSome, IfSome};
+ghost use Rattle.std.specs.Prelude.{◌≡◌, ◌<◌, ◌↔◌, ◌+ℤ◌, ◌-ℤ◌, IsTrue, IsSome, IfSome};
 ghost use Rattle.std.specs.Option.{ForSome};
 ghost use Rattle.civil.specs.Clock.{IsWallSecond};
 ghost use Rattle.civil.specs.Times.{wall_of, nanos_of};
@@ -9,14 +9,17 @@ use civil::{NaiveDate, NaiveDateTime, NaiveTime};
 use interim::datetime::{DateTime, Refused};
 use zoned::{Civil, Offset};
 
-// A time in UTC, its zone, and the zone's seconds east of UTC there, where they are known.
+// A time in UTC, its zone, and the zone's seconds east of UTC there, where they are known. `inside` says that the wall time there
+// is known to be one of the calendar.
 #[derive(Drop)]
 pub struct Located<Tz: Civil> {
     utc: NaiveDateTime,
     zone: Tz,
     east: Option<i32>,
+    inside: bool,
     ghost in_day: { ForSome east IsOffset },
     ghost kept: { Tz.sound zone → ForSome east (λ seconds. seconds ≡ Tz.off zone (wall_of utc)) },
+    ghost shown: { IsTrue inside → Tz.sound zone → IsWallSecond (wall_of utc +ℤ Tz.off zone (wall_of utc)) },
 }
 
 // The time in UTC of a wall time with an offset of so many seconds; none exactly where its second is outside the calendar.
@@ -42,6 +45,22 @@ impl<Tz: Civil> Located<Tz> {
             utc,
             zone: *zone,
             east: None,
+            inside: false,
+        }
+    }
+
+    /// The same, of a time in UTC whose wall time in a sound zone is one of the calendar.
+    pub fn inside(zone: &Tz, utc: NaiveDateTime) -> Located<Tz>
+        requires { Tz.sound zone.now → IsWallSecond (wall_of utc +ℤ Tz.off zone.now (wall_of utc)) }
+        ensures second { second_in result ≡ wall_of utc }
+        ensures nanos { nanos_in result ≡ nanos_of utc }
+        ensures zone { zone_in result ≡ zone.now }
+    {
+        Located {
+            utc,
+            zone: *zone,
+            east: None,
+            inside: true,
         }
     }
 
@@ -106,9 +125,14 @@ impl<Tz: Civil> DateTime for Located<Tz> {
                 utc: moment.naive_utc(),
                 zone: tz,
                 east: Some(moment.offset().fix().local_minus_utc()),
+                inside: false,
             }),
             None => Err(Refused::OutOfRange),
         }
+    }
+
+    fn zone_if_inside(&self) -> Option<Tz> {
+        if self.inside { Some(self.zone) } else { None }
     }
 
     fn split(self) -> Result<(Tz, NaiveDate, NaiveTime), Refused> {

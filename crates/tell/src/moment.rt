@@ -1,6 +1,7 @@
 //! The moment that a phrase means in a zone.
 ghost use Rattle.std.specs.Prelude.{◌≡◌, ◌↔◌, false, IsTrue, IfOk, IfSome};
 ghost use Rattle.timeline.specs.Laws.{IsLawful};
+ghost use Rattle.zoned.specs.Offsets.{IsOffset};
 ghost use Rattle.zoneinfo64.specs.ZoneView.{plain_zone};
 ghost use Rattle.interim.specs.Grammar.{parts_of};
 ghost use Rattle.interim.specs.Meaning.{MeansIn};
@@ -14,6 +15,7 @@ use crate::located::Located;
 use civil::NaiveDateTime;
 use interim::laws::sound_zones_mean;
 use interim::{DateResult, Dialect, parse_date_string};
+use timeline::laws::offsets_are_small;
 use zoned::Civil;
 use zoneinfo64::Zone;
 
@@ -36,22 +38,24 @@ pub fn is_base(base: i64) -> bool
     FIRST_BASE <= base && base <= LAST_BASE
 }
 
-// The base as a moment of the zone, which is not asked.
+// The base as a moment of the zone, which is not asked: a base is far inside the calendar, and so is its wall time.
 fn base_in<Tz: Civil>(zone: &Tz, base: i64) -> Located<Tz>
-    requires { IsBase base }
+    requires base { IsBase base }
+    requires small { Tz.sound zone.now → IsOffset (Tz.off zone.now base) }
     ensures second { second_in result ≡ base }
     ensures nanos { nanos_in result ≡ 0 }
     ensures zone { zone_in result ≡ zone.now }
 {
     match NaiveDateTime::from_wall_second(base, 0) {
-        Some(utc) => Located::at(zone, utc),
+        Some(utc) => Located::inside(zone, utc),
         None => unreachable!(),
     }
 }
 
 // The moment that a phrase means in a sound zone from a base, or the phrase's fault.
 fn resolved<Tz: Civil>(zone: &Tz, base: i64, phrase: &str, dialect: Dialect) -> DateResult<Moment>
-    requires { IsBase base }
+    requires base { IsBase base }
+    requires small { Tz.sound zone.now → IsOffset (Tz.off zone.now base) }
     ensures said { Tz.sound zone.now → AnswersPhrase false moment_view (parts_of dialect (phrase_tokens phrase.now))
         (MeansIn (Tz.off zone.now) civil_days civil_seconds (base, 0) dialect) result }
     ensures offset { Tz.sound zone.now → IfOk result (λ m. m.offset ≡ Tz.off zone.now m.second) }
@@ -80,5 +84,6 @@ pub fn moment_of<'a>(
         → ResolvesTo z dialect base phrase.now result) }
     ensures inside { IfOk result IsInCalendar }
 {
+    offsets_are_small();
     resolved(&zone, base, phrase, dialect)
 }

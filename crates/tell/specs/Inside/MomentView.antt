@@ -1,5 +1,5 @@
 -- The moment of the code as the definitions speak of it, and what is found of one.
-use Rattle.std.specs.Prelude.{◌≡◌, ℕ, ◌/◌, ◌<◌, List, Option, Some, None, Result, Ok, Err, IfSome, ℤ}
+use Rattle.std.specs.Prelude.{◌≡◌, ℕ, ◌/◌, ◌<◌, List, Option, Some, None, Result, Ok, Err, ℤ}
 use Rattle.civil.specs.Clock.{IsWallSecond}
 use Rattle.timeline.specs.Zone.{PlainZone}
 use Rattle.zoneinfo64.specs.NamedZone.{NamedZone, named}

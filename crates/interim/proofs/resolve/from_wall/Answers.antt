@@ -35,6 +35,6 @@ returns-in_ok-day-in-Relative-Months-clause-moment g c =
     let base : Wall = record { day = g.Dt.Date.Date.number c.args.date; time = g.Dt.Time.Time.time c.args.time } in
     let P : Option (ℤ × ℕ) → Type 0 = Lands (g.Dt.DateTime.may_place c.args.tz) g.Dt.DateTime.seconds (clock_or days midnight c.args.clock day) in
     let Q : Option (ℤ × ℕ) → Type 0 = λ (r : Option (ℤ × ℕ)). (found : Option Aim) × LeadsTo days base c.args.dialect (Relative (Months c.in-Relative-Months.count)) c.args.clock found × Lands (g.Dt.DateTime.may_place c.args.tz) g.Dt.DateTime.seconds found r in
-    rw spec (answers_weaker g.Dt.DateTime.memory (λ (d : g.row.Dt.Denot). g.Dt.DateTime.moment d) c.clock_or_midnight-in-Relative-Months.result P Q
+    rw spec (answers_weaker g.Dt.DateTime.memory (λ (d : g.row.Dt.Denot). g.Dt.DateTime.moment d) c.clock_or_midnight.result P Q
     (λ x h. (clock_or days midnight c.args.clock day, (date.0, date.1, date.2, date.3, sym (ap (option_and_then (clock_or days midnight c.args.clock)) (ap (λ (n : ℤ). within days (months_on date.0 date.1 date.2 n)) (sym same) ∙ date.4))), h))
-    c.clock_or_midnight-in-Relative-Months.ensures.moment)
+    c.clock_or_midnight.ensures.moment)

@@ -1,6 +1,4 @@
-use Rattle.std.proofs.Common.{◌≡◌, ℕ, Option, Result, ℤ, false, refl, sym, ap, ◌∙◌, subst, to_z-of_z, FitsSigned, w64, w32, rules}
-use Rattle.interim.specs.declared.types.DateSpec.{DateSpec}
-use Rattle.interim.specs.declared.types.TimeSpec.{TimeSpec}
+use Rattle.std.proofs.Common.{◌≡◌, sym, ◌∙◌, subst, to_z-of_z, FitsSigned, w64, rules}
 use Rattle.interim.specs.Grammar.{parts_of}
 use Rattle.interim.specs.Meaning.{Means, MeansIn, ShowsIf, PlacesIf}
 use Rattle.interim.specs.Refusal.{civil_days, civil_seconds}

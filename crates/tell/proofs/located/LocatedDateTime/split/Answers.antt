@@ -1,4 +1,4 @@
-use Rattle.std.proofs.Common.{◌≡◌, false, true, ℤ, ◌+ℤ◌, refl, ◌∙◌, arith}
+use Rattle.std.proofs.Common.{◌≡◌, false, true, ◌+ℤ◌, refl, ◌∙◌, arith}
 use Rattle.civil.specs.Clock.{wall_day, wall_clock}
 use Rattle.civil.specs.Times.{wall_of}
 use Rattle.civil.proofs.SignedLemmas.{signed_arith}
