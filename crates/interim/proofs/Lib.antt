@@ -3,6 +3,7 @@ pub mod Answered
 pub mod Digits
 pub mod JiffDays
 pub mod JiffInstants
+pub mod JiffTables
 mod MeaningExamples
 pub mod OneMeaning
 pub mod PlainMeaning

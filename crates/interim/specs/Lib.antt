@@ -3,6 +3,7 @@ pub mod Grammar
 pub mod Inside
 pub mod Intervals
 pub mod Jiff
+pub mod JiffTables
 pub mod Laws
 pub mod Meaning
 pub mod MeaningLaws

@@ -1,6 +1,7 @@
 //! What holds of the definitions of tokens, parts and meanings.
 ghost use Rattle.std.specs.Prelude.{◌≡◌, false};
 ghost use Rattle.interim.specs.Jiff.{KeepsAnOffset, OneMeaningOverJiff};
+ghost use Rattle.interim.specs.JiffTables.{TablesPlace};
 ghost use Rattle.interim.specs.MeaningLaws.{OneMeaning, PlainFormsAreInside, PlainFormsMean, SomeMeaning, SoundMeaning};
 ghost use Rattle.interim.specs.Laws.{TokensAreSound, PartsAreSound, TimesAreSound, PlainFormsAreRead};
 
@@ -64,6 +65,12 @@ pub fn jiff_keeps_an_offset()
 /// In any zone of `jiff` too, a wall time has one place, and the parts of a phrase mean one moment or have no meaning.
 pub fn parts_mean_one_thing_over_jiff()
     ensures { OneMeaningOverJiff }
+{}
+
+/// In a zone of `jiff` whose offsets stand in a table, with no rule behind it, a wall time is placed at the first second that
+/// shows it, and in a gap at the wall time less the offset before the gap.
+pub fn jiff_tables_place()
+    ensures { TablesPlace }
 {}
 
 /// No call over either backend wants memory: so none answers `Refused::Memory`, nor `DateError::Memory`.
