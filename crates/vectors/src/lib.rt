@@ -13,5 +13,7 @@ mod tell_tests;
 #[cfg(test)]
 mod tests;
 mod trees;
+#[cfg(test)]
+mod zones_tests;
 
 pub use samples::{aliased, changed_zone, one_zone, table_zone, three_zones, unlawful_zones};
