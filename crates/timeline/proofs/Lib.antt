@@ -32,6 +32,7 @@ pub mod OneHolds
 pub mod Verdicts
 mod ZoneExamples
 pub mod NearestDays
+pub mod EqualTables
 pub mod Nexts
 pub mod NextYears
 pub mod NextAnswers

@@ -13,6 +13,7 @@ pub mod TransitionSteps
 pub mod Fault
 pub mod CheckSteps
 pub mod Apart
+pub mod Equal
 pub mod Promises
 pub mod DataView
 pub mod DateView

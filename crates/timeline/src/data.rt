@@ -8,7 +8,7 @@ use crate::dates::ZoneRule;
 use crate::fault::ZoneFault;
 use crate::offset::{Offset, PossibleOffset, Transition, UtcOffset};
 use crate::seconds::Seconds;
-use crate::{lookups, transitions};
+use crate::{equal, lookups, transitions};
 use sqlite_items::Items;
 use std::marker::Model;
 use std::sync::ledger::Ledger;
@@ -174,6 +174,7 @@ impl ZoneData {
     ghost use Rattle.timeline.specs.Fault.{IsLeastBroken};
     ghost use Rattle.timeline.specs.Timeline.{offset_at, table_place};
     ghost use Rattle.timeline.specs.Placement.{IsPlaced};
+    ghost use Rattle.timeline.specs.Equal.{same_zone};
     ghost use Rattle.timeline.specs.Transitions.{AnswersNext, AnswersPrev};
     ghost use Rattle.timeline.specs.Lookups.{AnswersWall, IsDateTime, placing};
 
@@ -265,6 +266,14 @@ impl ZoneData {
             seconds_exact,
             require_offset_change,
         )
+    }
+
+    /// Whether two zones have the same pairs of offsets, seconds of the table in the same parts, numbers of pairs, links and
+    /// rule.
+    pub fn is_same(&self, other: &ZoneData) -> bool
+        ensures { result ≡ same_zone self.now other.now }
+    {
+        equal::is_same(self, other)
     }
 
     /// Whether the zone is lawful: whether it keeps the eight laws in every year of its rule. Else the least law that it

@@ -1,10 +1,12 @@
 //! The dates of yearly rules, and the places of the days that they name.
-ghost use Rattle.std.specs.Prelude.{◌≡◌, ◌+◌, ◌<◌, ◌≤◌, if◌then◌else◌, ℤ, pos, negsuc, ◌+ℤ◌, ◌≤ℤ◌, Some, None, unsigned_abs};
+ghost use Rattle.std.specs.Ordering.{int_eq};
+ghost use Rattle.std.specs.Prelude.{◌≡◌, ◌&&◌, ◌+◌, ◌<◌, ◌≤◌, if◌then◌else◌, ℤ, pos, negsuc, ◌+ℤ◌, ◌≤ℤ◌, Some, None, unsigned_abs};
 ghost use Rattle.civil.specs.Calendar.{year_start, year_kind, days_of_months, weekday_of};
 ghost use Rattle.timeline.specs.Zone.{DateRule, fits_i32, plain_rule};
 ghost use Rattle.timeline.specs.Rule.{first_on, last_on, start_is_first};
 ghost use Rattle.timeline.specs.Kinds.{place_in_kind, places_of, time_mode, kept_rule};
 ghost use Rattle.timeline.specs.DateView.{plain_date, raw_of};
+ghost use Rattle.timeline.specs.Equal.{same_date, same_rule};
 ghost use Rattle.timeline.specs.Ranges.{IsDateInRange, AreDatesInRange};
 
 use crate::rule::{KindDate, TimeMode, YearRule};
@@ -159,6 +161,17 @@ impl RuleDate {
             mode,
         }
     }
+
+    /// Whether two dates have the same numbers.
+    fn is_same(&self, other: &RuleDate) -> bool
+        ensures { result ≡ same_date (plain_date self.now) (plain_date other.now) }
+    {
+        self.month == other.month
+            && self.day == other.day
+            && self.code == other.code
+            && self.seconds == other.seconds
+            && self.mode == other.mode
+    }
 }
 
 impl RuleDates {
@@ -167,6 +180,15 @@ impl RuleDates {
         ensures { raw_of result ≡ record { start = plain_date start; end = plain_date end; extra = extra } }
     {
         RuleDates { start, end, extra }
+    }
+
+    /// Whether two rules have the same numbers.
+    fn is_same(&self, other: &RuleDates) -> bool
+        ensures { result ≡ (same_date (plain_date self.now.start) (plain_date other.now.start) && same_date (plain_date self.now.end) (plain_date other.now.end) && int_eq self.now.extra other.now.extra) }
+    {
+        self.start.is_same(&other.start)
+            && self.end.is_same(&other.end)
+            && self.extra == other.extra
     }
 }
 
@@ -205,6 +227,15 @@ fn start_is_first(dates: &RuleDates) -> bool
     }
 }
 
+/// Whether two rules have the same standard offset and first year.
+fn same_years(a: &YearRule, b: &YearRule) -> bool
+    ensures { result ≡ (int_eq a.now.raw b.now.raw && int_eq a.now.first_year b.now.first_year) }
+{
+    let (raw, _) = a.offsets();
+    let (other, _) = b.offsets();
+    raw == other && a.first_year() == b.first_year()
+}
+
 impl ZoneRule {
     /// A rule in a zone of that standard offset, from that year on; `None` where its offset leaves 32 bits.
     pub fn from_dates(placed: &PlacedDates, raw: i32, first_year: i32) -> Option<ZoneRule>
@@ -221,6 +252,13 @@ impl ZoneRule {
             dates,
             years: YearRule::new(start, end, dates.extra, raw, first, first_year),
         })
+    }
+
+    /// Whether two rules have the same numbers, the same standard offset and the same first year.
+    pub fn is_same(&self, other: &ZoneRule) -> bool
+        ensures { result ≡ same_rule self.now other.now }
+    {
+        self.dates.is_same(&other.dates) && same_years(&self.years, &other.years)
     }
 
     /// What tells its years.

@@ -4,6 +4,7 @@
 mod check;
 mod data;
 mod dates;
+mod equal;
 mod fault;
 pub mod laws;
 mod lookups;
