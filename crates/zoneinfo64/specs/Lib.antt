@@ -13,3 +13,6 @@ pub mod Steps
 pub mod ShownOffsets
 pub mod ZoneOffsets
 pub mod OffsetView
+pub mod EqualNames
+pub mod EqualZones
+pub mod EqualPer

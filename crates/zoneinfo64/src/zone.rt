@@ -287,6 +287,37 @@ impl<'a> Zone<'a> {
     }
 }
 
+/// Two zones are equal where their names, their regions and what was read of them are: type offsets, the seconds of the three
+/// lists, type map, links and rule. An alias has its own name and region, and the data of the zone that it stands for.
+impl PartialEq for Zone<'_> {
+    ghost use Rattle.zoneinfo64.specs.EqualZones.{same_zones};
+    ghost use Rattle.zoneinfo64.specs.EqualPer.{zones_per};
+
+    ghost eq = { same_zones };
+
+    ghost laws = { zones_per };
+
+    fn eq(&self, other: &Self) -> bool {
+        let (entry, other_entry) = (
+            entry_at(self.info, self.place),
+            entry_at(other.info, other.place),
+        );
+        same_names(entry, other_entry)
+            && data_of(self.info, self.place).is_same(data_of(other.info, other.place))
+    }
+}
+
+ghost use Rattle.std.specs.Prelude.{nat_eq};
+ghost use Rattle.std.specs.Cmp.Lexicographic.{pointwise};
+ghost use Rattle.zoneinfo64.specs.EqualNames.{same_names};
+
+/// Whether two entries have the same name and region.
+fn same_names(a: &Named, b: &Named) -> bool
+    ensures { result ≡ same_names (named_of a.now) (named_of b.now) }
+{
+    a.name.units() == b.name.units() && a.region.raw().as_slice() == b.region.raw().as_slice()
+}
+
 ghost use Rattle.std.specs.Prelude.{◌<◌, ◌≤◌, ◌-◌, min};
 
 /// A place, or the last one of so many.
