@@ -5,6 +5,9 @@ pub mod NearWalls
 pub mod SaidMoments
 pub mod MomentTexts
 pub mod FoundMoments
+pub mod LoadZones
+pub mod LoadReports
+pub mod Tallies
 pub mod RunLemmas
 pub mod OneAnswer
 pub mod ReadBackTokens

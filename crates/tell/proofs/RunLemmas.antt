@@ -14,7 +14,7 @@ use Rattle.streams.specs.declared.status.Status.{Status}
 use Rattle.streams.specs.declared.status.Status.TheVariants.{Bundle}
 use Rattle.tongues.specs.declared.any.AnyLanguage.{AnyLanguage}
 use Rattle.tell.specs.ReplyTexts.{IsReply}
-use Rattle.tell.specs.Run.{command_of, bundle_words, bundle_zones, planned, IsReplyWith}
+use Rattle.tell.specs.Run.{two_words, three_words, command_of, bundle_words, bundle_zones, planned, IsReplyWith}
 use Rattle.tell.specs.declared.program.Command.TheVariants.{At}
 
 over_limit : (b : List ℕ) → 4194304 < length b → bundle_zones b ≡ None
@@ -49,13 +49,30 @@ stands_in_zones speech None zones status a b u v is stands = tt
 stands_in_zones speech (Some all) zones status a b u v is stands =
     subst (λ (o : Option (List NamedZone)). Stands (IsReplyWith speech o) status a b u v) (sym is) stands
 
--- three words of which the first is `at`
-pub at_command : {T : Type 0} (bytes : T → List ℕ) (args : List T) (at lang : T) → 3 ≤ length args → length args < 4 → at ≡ get_or args 0 at → lang ≡ get_or args 1 lang
-    → bytes_eq (bytes at) (codes "at") ≡ true → command_of (map bytes args) ≡ option_map (λ l. At l) (coded_language (bytes lang))
-at_command bytes [] at lang few many p q e = absurd (omega arith)
-at_command bytes (a ∷ []) at lang few many p q e = absurd (omega arith)
-at_command bytes (a ∷ b ∷ []) at lang few many p q e = absurd (omega arith)
-at_command bytes (a ∷ b ∷ d ∷ []) at lang few many p q e =
-    let first : bytes_eq (bytes a) (codes "at") ≡ true = rw p at e in
-    rw (first, q) refl
-at_command bytes (a ∷ b ∷ d ∷ f ∷ args) at lang few many p q e = absurd (omega arith)
+-- the words of a command, by how many they are
+pub three_are : {T : Type 0} (bytes : T → List ℕ) (args : List T) (name lang : T) → 3 ≤ length args → length args < 4 → name ≡ get_or args 0 name → lang ≡ get_or args 1 lang
+    → command_of (map bytes args) ≡ three_words (bytes name) (bytes lang)
+three_are bytes [] name lang few many p q = absurd (omega arith)
+three_are bytes (a ∷ []) name lang few many p q = absurd (omega arith)
+three_are bytes (a ∷ b ∷ []) name lang few many p q = absurd (omega arith)
+three_are bytes (a ∷ b ∷ d ∷ []) name lang few many p q = rw (p, q) refl
+three_are bytes (a ∷ b ∷ d ∷ f ∷ args) name lang few many p q = absurd (omega arith)
+
+pub two_are : {T : Type 0} (bytes : T → List ℕ) (args : List T) (name word : T) → 2 ≤ length args → length args < 3 → name ≡ get_or args 0 name → word ≡ get_or args 1 word
+    → command_of (map bytes args) ≡ two_words (bytes name) (bytes word)
+two_are bytes [] name word few many p q = absurd (omega arith)
+two_are bytes (a ∷ []) name word few many p q = absurd (omega arith)
+two_are bytes (a ∷ b ∷ []) name word few many p q = rw (p, q) refl
+two_are bytes (a ∷ b ∷ d ∷ args) name word few many p q = absurd (omega arith)
+
+pub none_are_few : {T : Type 0} (bytes : T → List ℕ) (args : List T) → length args < 2 → command_of (map bytes args) ≡ None
+none_are_few bytes [] few = refl
+none_are_few bytes (a ∷ []) few = refl
+none_are_few bytes (a ∷ b ∷ args) few = absurd (omega arith)
+
+pub none_are_many : {T : Type 0} (bytes : T → List ℕ) (args : List T) → 3 < length args → command_of (map bytes args) ≡ None
+none_are_many bytes [] many = absurd (omega arith)
+none_are_many bytes (a ∷ []) many = absurd (omega arith)
+none_are_many bytes (a ∷ b ∷ []) many = absurd (omega arith)
+none_are_many bytes (a ∷ b ∷ d ∷ []) many = absurd (omega arith)
+none_are_many bytes (a ∷ b ∷ d ∷ f ∷ args) many = refl

@@ -2,6 +2,7 @@
 pub mod Engines
 pub mod FieldsView
 pub mod LawsBelow
+pub mod LoadTree
 pub mod LocatedView
 pub mod MomentView
 pub mod ReplyParts

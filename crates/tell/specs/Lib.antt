@@ -6,6 +6,7 @@ pub mod ReplyTexts
 pub mod Tells
 pub mod FormatterVoices
 pub mod Ago
+pub mod Load
 pub mod Run
 pub mod LongLines
 pub mod Promises

@@ -20,8 +20,8 @@ const MOST_DIGITS: usize = 20;
 
 const TOLD_COUNTS: usize = 3;
 
-// The number that 1 to 20 digits write.
-fn number(digits: &[u8]) -> Option<u128>
+/// The number that 1 to 20 digits write.
+pub fn number(digits: &[u8]) -> Option<u128>
     ensures { result ≡ digits_number digits.now }
 {
     if digits.is_empty() || digits.len() > MOST_DIGITS {

@@ -7,12 +7,15 @@ mod bundle;
 mod engine;
 mod fields;
 mod find;
+mod large;
 pub mod laws;
 mod lead;
+mod load;
 mod located;
 mod moment;
 mod program;
 mod reply;
+mod tally;
 mod teller;
 #[cfg(test)]
 mod tests;

@@ -7,18 +7,22 @@ ghost use Rattle.streams.specs.Causes.{Rose};
 ghost use Rattle.streams.specs.Ends.{EndsAs, EndsBy};
 ghost use Rattle.streams.specs.Stands.{Stands};
 ghost use Rattle.streams.specs.Whole.{TookAtMost, TookMore};
-ghost use Rattle.tell.specs.Run.{command_of, planned, bundle_zones, IsReplyWith, Reported, IsReported, StandsAfter, RefusesBundle, AcceptsBundle, ReadFaultRose, NeedsNoBundle};
+ghost use Rattle.tell.specs.Run.{load_count, two_words, three_words, command_of, planned, bundle_zones, IsReplyWith, Reported, IsReported, StandsAfter, RefusesBundle, AcceptsBundle, ReadFaultRose, NeedsNoBundle, ReadsNothing};
 ghost use Rattle.tell.specs.declared.program.Command.{Command};
 ghost use Rattle.tell.specs.declared.program.Command.TheVariants as command;
 
-use crate::ago::AgoEngine;
+use crate::ago::{AgoEngine, number};
 use crate::bundle::{BundleError, zones_of_bytes};
 use crate::engine::AtEngine;
+use crate::load::load;
 use std::alloc::Global;
 use streams::{ReadError, Sink, Source, Status, read_all, serve};
 use timeago::{AnyLanguage, from_isolang};
 
 const MAX_BUNDLE: usize = 4_194_304;
+
+// The most zones of a large input.
+const MAX_COUNT: u128 = 20_000;
 
 // What the words after the program's name ask for.
 #[derive(Clone, Copy)]
@@ -27,6 +31,8 @@ enum Command {
     At(AnyLanguage),
     /// The lines of the input are seconds, which are told in words.
     Ago(AnyLanguage),
+    /// A large input is made, with so many zones and lines.
+    Load(u32),
 }
 
 fn read_at(lang: &str) -> Option<Command>
@@ -41,18 +47,59 @@ fn read_ago(lang: &str) -> Option<Command>
     Some(Command::Ago(from_isolang(lang)?))
 }
 
+// The number from 1 to 20,000 that a word writes without a leading zero.
+fn load_count(word: &str) -> Option<u32>
+    ensures { result ≡ load_count word.now }
+{
+    let digits = word.as_bytes();
+    if let [b'0', ..] = digits {
+        return None;
+    }
+    let count = number(digits)?;
+    if count > MAX_COUNT {
+        return None;
+    }
+    Some(count as u32)
+}
+
+fn read_load(count: &str) -> Option<Command>
+    ensures { result ≡ option_map (λ n. command.Load n) (load_count count.now) }
+{
+    Some(Command::Load(load_count(count)?))
+}
+
+// The command that a word names, and a word behind it.
+fn read_two(name: &str, word: &str) -> Option<Command>
+    ensures { result ≡ two_words name.now word.now }
+{
+    if name == "ago" {
+        read_ago(word)
+    } else if name == "load" {
+        read_load(word)
+    } else {
+        None
+    }
+}
+
+// And two words behind it, of which the second names a file.
+fn read_three(name: &str, lang: &str) -> Option<Command>
+    ensures { result ≡ three_words name.now lang.now }
+{
+    if name == "at" { read_at(lang) } else { None }
+}
+
 fn read_command(args: &[String]) -> Option<Command>
     ensures { result ≡ command_of (map string_bytes args.now) }
 {
     match args {
-        [at, lang, _] if at.as_str() == "at" => read_at(lang.as_str()),
-        [ago, lang] if ago.as_str() == "ago" => read_ago(lang.as_str()),
+        [name, lang, _] => read_three(name.as_str(), lang.as_str()),
+        [name, word] => read_two(name.as_str(), word.as_str()),
         _ => None,
     }
 }
 
-// Replies to the lines of the input in the zones of the bundle.
-fn at<B: Source, I: Source, O: Sink>(
+/// Replies to the lines of the input in the zones of the bundle.
+pub fn at<B: Source, I: Source, O: Sink>(
     alloc: Global,
     language: AnyLanguage,
     bundle: &mut B,
@@ -102,9 +149,10 @@ fn at<B: Source, I: Source, O: Sink>(
 /// All that the program does.
 ///
 /// `args` are the words after the program's name: `at LANG` and the name of a bundle's file, or `ago LANG`, where LANG is
-/// one of the eighteen codes of `timeago::from_isolang`. With `at` each line of the input is a date, which is placed in a
-/// zone of the bundle and told as a distance; with `ago` it is a number of seconds, which is told as a distance, and the
-/// bundle is not touched.
+/// one of the eighteen codes of `timeago::from_isolang`, or `load N`, where N is 1 to 20,000 without a leading zero. With
+/// `at` each line of the input is a date, which is placed in a zone of the bundle and told as a distance; with `ago` it is a
+/// number of seconds, which is told as a distance, and the bundle is not touched. With `load` neither source is touched: a
+/// bundle of N zones and a line for each are made and run, and what the answers come to is written.
 ///
 /// It ends at the first of: words that are no command (`Usage`), a bundle that cannot be read (`ReadFault`) or is refused
 /// (`Bundle`), and then as `serve` does; or where memory cannot be found (`Memory`). A bundle is refused that has over
@@ -130,6 +178,8 @@ pub fn run<B: Source, I: Source, O: Sink>(
         → (input.new ≡ input.old) × (output.new ≡ output.old) }
     ensures no_bundle { NeedsNoBundle (command_of (map string_bytes args.now))
         → bundle.new ≡ bundle.old }
+    ensures no_source { ReadsNothing (command_of (map string_bytes args.now))
+        → (bundle.new ≡ bundle.old) × (input.new ≡ input.old) }
 
     // It ends as planned, or with a fault, or for want of memory.
     ensures ends { EndsBy (planned (command_of (map string_bytes args.now))
@@ -156,6 +206,7 @@ pub fn run<B: Source, I: Source, O: Sink>(
     match read_command(args) {
         Some(Command::At(language)) => at(alloc, language, bundle, input, output),
         Some(Command::Ago(language)) => serve(alloc, &AgoEngine::new(language), input, output),
+        Some(Command::Load(count)) => load(alloc, count, output),
         None => Status::Usage,
     }
 }

@@ -1,13 +1,19 @@
-use Rattle.std.proofs.Common.{◌≡◌, string_bytes, codes, true, sym, ap, ◌∙◌}
-use Rattle.std.specs.Str.{bytes_eq}
-use Rattle.std.specs.Option.{option_map}
-use Rattle.timeago.specs.Codes.{coded_language}
-use Rattle.tell.specs.declared.program.Command.TheVariants.{At}
-use Rattle.tell.proofs.RunLemmas.{at_command}
+use Rattle.std.proofs.Common.{◌≡◌, string_bytes, sym, ◌∙◌}
+use Rattle.tell.proofs.RunLemmas.{two_are, three_are, none_are_few, none_are_many}
 use Rattle.tell.proofs.program.read_command.Goals as goal
 
 pub returns-in-len3 : goal.returns-in-len3
 returns-in-len3 c =
-    let first : bytes_eq (string_bytes c.at-item.result) (codes "at") ≡ true = rw (← c.as_str-then-args-lt4.ensures.value) (sym c.eq-then-args-lt4.ensures ∙ c.if-eq-2.true) in
-    c.read_at.ensures ∙ ap (λ lang. option_map (λ l. At l) (coded_language lang)) c.as_str-in-len3.ensures.value
-    ∙ sym (at_command string_bytes c.args.args.now c.at-item.result c.lang-item-then-args-lt4.result c.in-len3.len_at_least c.in-len3.len_below c.at-item.is c.lang-item-then-args-lt4.is first)
+    c.read_three.ensures
+    ∙ rw (c.as_str-in-len3.ensures.value, c.as_str-in-len3-2.ensures.value) (sym (three_are string_bytes c.args.args.now c.name-item-then-args-lt4.result c.lang-item.result c.in-len3.len_at_least c.in-len3.len_below c.name-item-then-args-lt4.is c.lang-item.is))
+
+pub returns-in-len2 : goal.returns-in-len2
+returns-in-len2 c =
+    c.read_two.ensures
+    ∙ rw (c.as_str.ensures.value, c.as_str-in-len2.ensures.value) (sym (two_are string_bytes c.args.args.now c.name-item.result c.word-item.result c.in-len2.len_at_least c.in-len2.len_below c.name-item.is c.word-item.is))
+
+pub returns-in_default : goal.returns-in_default
+returns-in_default c = sym (none_are_few string_bytes c.args.args.now c.in_default.len_below)
+
+pub returns-in_default-2 : goal.returns-in_default-2
+returns-in_default-2 c = sym (none_are_many string_bytes c.args.args.now c.in_default.len_at_least)

@@ -1,0 +1,130 @@
+-- The zones that the bundle of a large input has.
+use Rattle.std.proofs.Common.{◌≡◌, ℕ, zero, suc, ◌+◌, ◌*◌, ◌%◌, ◌<◌, ◌≤◌, Bool, true, false, cond, List, [], ◌∷◌, ◌++◌, codes, Option, Some, None, refl, sym, ap, ◌∙◌, arith, ℤ, pos, negsuc, ◌-ℤ◌, ◌+ℤ◌, ◌≤ℤ◌, ◌-◌, ◌==◌, nat_lt, length, rules, w32, to_z-of_z, FitsSigned}
+use Rattle.std.proofs.lemmas.Int.{ints}
+use Rattle.std.proofs.lemmas.Bool.{lt-ltb}
+use Rattle.std.proofs.lemmas.Bool.Decides.{nat_tests}
+use Rattle.std.specs.Prelude.{option_and_then}
+use Rattle.std.specs.Int.{cast_unsigned}
+use Rattle.std.specs.Char.Utf16.{utf16_chars}
+use Rattle.resb_tree.specs.declared.resource.Resource.{Resource, out-Resource, out-roll-Resource}
+use Rattle.resb_tree.specs.declared.resource.Resource.TheOpen.{Resource-F}
+use Rattle.resb_tree.specs.declared.resource.Resource.TheViews.{rolls-Table, rolls-Array, rolls-Text, rolls-Integers}
+use Rattle.resb_tree.specs.declared.resource.Resource.TheVariants as r
+use Rattle.resb_tree.specs.Tree.{◌>>=◌, when}
+use Rattle.resb_tree.specs.Header.{tree_of}
+use Rattle.timeline.specs.Zone.{fits_i32}
+use Rattle.zoneinfo64.specs.NamedZone.{NamedZone, IsZone}
+use Rattle.zoneinfo64.specs.Bundle.{as_i32, plain_zone_of, place_of, named_zone, named_zones, final_rule, zone_list, zones_of_words, rises, all_resolved}
+use Rattle.tell.specs.Run.{words_of, bundle_words, bundle_zones}
+use Rattle.tell.specs.Load.{up_to, zone_name, load_offset, fixed_zone, load_zone, load_zones}
+use Rattle.tell.specs.Inside.LoadTree.{zone_tree, name_tree, region_tree, load_tree}
+
+-- ---- parts of a tree
+
+out-Table : (v : List (List ℕ × Resource)) → out-Resource (r.Table v) ≡ Resource-F.Table v
+out-Table v = ap out-Resource (sym (rolls-Table v)) ∙ out-roll-Resource (Resource-F.Table v)
+
+out-Array : (v : List Resource) → out-Resource (r.Array v) ≡ Resource-F.Array v
+out-Array v = ap out-Resource (sym (rolls-Array v)) ∙ out-roll-Resource (Resource-F.Array v)
+
+out-Text : (v : List ℕ) → out-Resource (r.Text v) ≡ Resource-F.Text v
+out-Text v = ap out-Resource (sym (rolls-Text v)) ∙ out-roll-Resource (Resource-F.Text v)
+
+out-Integers : (v : List ℕ) → out-Resource (r.Integers v) ≡ Resource-F.Integers v
+out-Integers v = ap out-Resource (sym (rolls-Integers v)) ∙ out-roll-Resource (Resource-F.Integers v)
+
+-- ---- one zone
+
+big_word : (n : ℕ) → n ≤ 43199 → nat_lt (4294967296 - suc n) 2147483648 ≡ false
+big_word n h = grind (arith, nat_tests)
+
+negative : (n : ℕ) → n ≤ 43199 → pos (4294967296 - suc n) -ℤ pos 4294967296 ≡ negsuc n
+negative n h = omega (arith, ints)
+
+-- the word of a number is read as the number
+signed_read : (z : ℤ) → negsuc 43199 ≤ℤ z → z ≤ℤ pos 43200 → as_i32 (cast_unsigned w32 z) ≡ z
+signed_read (pos n) low high =
+    let small : nat_lt n 2147483648 ≡ true = lt-ltb n 2147483648 (omega (arith, ints)) in
+    rw small refl
+signed_read (negsuc n) low high =
+    let near : n ≤ 43199 = omega (arith, ints) in
+    let big : nat_lt (cast_unsigned w32 (negsuc n)) 2147483648 ≡ false = big_word n near in
+    rw big (negative n near)
+
+offset_low : (n : ℕ) → negsuc 43199 ≤ℤ load_offset n
+offset_low n = omega (arith, ints)
+
+offset_high : (n : ℕ) → load_offset n ≤ℤ pos 43200
+offset_high n = omega (arith, ints)
+
+offset_read : (n : ℕ) → as_i32 (cast_unsigned w32 (load_offset n)) ≡ load_offset n
+offset_read n = signed_read (load_offset n) (offset_low n) (offset_high n)
+
+no_more : (z : ℤ) → z +ℤ pos 0 ≡ z
+no_more z = omega (arith, ints)
+
+small_fits : (z : ℤ) → negsuc 43199 ≤ℤ z → z ≤ℤ pos 43200 → fits_i32 z ≡ true
+small_fits z low high = search rules
+
+offset_fits : (n : ℕ) → fits_i32 (load_offset n) ≡ true
+offset_fits n = small_fits (load_offset n) (offset_low n) (offset_high n)
+
+zone_read : (n : ℕ) → plain_zone_of [] (zone_tree n) ≡ Some (fixed_zone (load_offset n))
+unfolding plain_zone_of final_rule
+zone_read n = simp (out-Table, out-Integers, offset_read n, no_more, offset_fits n) refl
+
+one_named : (n : ℕ) → named_zone [] (zone_tree n) (name_tree n) (region_tree n) ≡ Some (load_zone n)
+unfolding named_zone utf16_chars
+one_named n = simp (out-Text, out-Table, zone_read n) refl
+
+-- ---- all zones
+
+-- what f gives from a number on
+abbrev run : {A : Type 0} → (ℕ → A) → ℕ → ℕ → List A
+run f at zero = []
+run f at (suc n) = f at ∷ run f (at + 1) n
+
+all_named : (at n : ℕ) → named_zones [] (run zone_tree at n) (run name_tree at n) (run region_tree at n) ≡ Some (run load_zone at n)
+all_named at zero = refl
+all_named at (suc n) = rw (one_named at, all_named (at + 1) n) refl
+
+run-last : {A : Type 0} (f : ℕ → A) (at n : ℕ) → run f at (suc n) ≡ run f at n ++ f (at + n) ∷ []
+run-last f at zero =
+    let place : at + 0 ≡ at = omega arith in
+    rw place refl
+run-last f at (suc n) =
+    let place : at + 1 + n ≡ at + suc n = omega arith in
+    ap (λ l. f at ∷ l) (run-last f (at + 1) n ∙ rw place refl)
+
+up_to-run : {A : Type 0} (f : ℕ → A) (n : ℕ) → up_to f n ≡ run f 1 n
+up_to-run f zero = refl
+up_to-run f (suc n) =
+    let place : n + 1 ≡ 1 + n = omega arith in
+    ap (λ l. l ++ f (n + 1) ∷ []) (up_to-run f n) ∙ ap (λ (k : ℕ). run f 1 n ++ f k ∷ []) place ∙ sym (run-last f 1 n)
+
+zones_named : (n : ℕ) → named_zones [] (up_to zone_tree n) (up_to name_tree n) (up_to region_tree n) ≡ Some (load_zones n)
+zones_named n =
+    rw (up_to-run zone_tree n, up_to-run name_tree n, up_to-run region_tree n, up_to-run load_zone n) (all_named 1 n)
+
+-- ---- the bundle
+
+when_some : {A : Type 0} (b : Bool) (x y : A) → when b x ≡ Some y → y ≡ x
+when_some true x y e = cc
+when_some false x y e = cc
+
+tree_zones : (n : ℕ) (zones : List NamedZone) → zone_list (load_tree n) ≡ Some zones → zones ≡ load_zones n
+unfolding zone_list
+tree_zones n zones e = when_some _ _ _ (simp (out-Table, out-Array, zones_named n) at e)
+
+from_words : (over whole : Bool) (words : List ℕ) (zones : List NamedZone) → option_and_then zones_of_words (cond over None (cond whole (Some words) None)) ≡ Some zones
+    → zones_of_words words ≡ Some zones
+from_words true whole words zones e = absurd (cc)
+from_words false true words zones e = e
+from_words false false words zones e = absurd (cc)
+
+-- a bundle whose words denote the tree has these zones, if it has any
+pub load_zones_there : (n : ℕ) (bytes : List ℕ) (zones : List NamedZone) → tree_of (words_of bytes) ≡ Some (load_tree n) → bundle_zones bytes ≡ Some zones → zones ≡ load_zones n
+unfolding bundle_zones bundle_words zones_of_words
+load_zones_there n bytes zones denoted e =
+    let read = from_words (nat_lt 4194304 (length bytes)) (length bytes % 4 == 0) (words_of bytes) zones e in
+    tree_zones n zones (rw denoted at read)
