@@ -53,7 +53,7 @@ pub fn table_place<L: Ledger>(zone: &ZoneData, second: i64, steps: &mut Steps<L>
 }
 
 /// What holds before the entry of that number, which is one of the table or comes next after it.
-fn before_entry(zone: &ZoneData, number: usize) -> Offset
+pub(crate) fn before_entry(zone: &ZoneData, number: usize) -> Offset
     requires { number ≤ length zone.now.table }
     ensures { result ≡ before_entry zone.now number }
 {
@@ -134,7 +134,7 @@ pub fn entries_of(zone: &ZoneData, year: i32) -> YearEntries
 }
 
 /// The year of a second, or the first or last year of 32 bits where it lies before or after these.
-fn nearest_year(second: i64) -> i32
+pub(crate) fn nearest_year(second: i64) -> i32
     ensures { IsNearestYear result second }
 {
     let day = second.div_euclid(86_400);

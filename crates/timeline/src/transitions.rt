@@ -3,30 +3,17 @@ ghost use Rattle.std.specs.Prelude.{◌≡◌, ◌≤◌, ◌↔◌, ℕ, pos, n
 ghost use Rattle.timeline.specs.Zone.{PlainRule};
 ghost use Rattle.civil.specs.Calendar.{year_second};
 ghost use Rattle.timeline.specs.Laws.{IsLawful, KeepsOrder};
-ghost use Rattle.timeline.specs.Timeline.{before_entry};
 ghost use Rattle.timeline.specs.declared.lookups.YearEntries.TheVariants as told;
 ghost use Rattle.timeline.specs.YearEntries.{entries_in, IsNearestYear, StartsInside};
 ghost use Rattle.timeline.specs.Transitions.{IsUpTo, AnswersNext, AnswersPrev};
 ghost use Rattle.timeline.specs.TransitionSteps.{FirstIn, FirstFrom, LastBelow, IsTableCut, IsYearOf, year_place, is_idle, first_of_year, last_of_year};
 
 use crate::data::ZoneData;
-use crate::lookups::{YearEntries, entries_of, table_place};
+use crate::lookups::{YearEntries, before_entry, entries_of, nearest_year, table_place};
 use crate::offset::{Offset, Transition};
-use civil::year_of_day;
 use std::marker::Brand;
 use std::sync::ledger::{Blank, Ledger};
 use steps::Steps;
-
-/// The year of a second, or the first or last year of 32 bits where it lies before or after these.
-fn nearest_year(second: i64) -> i32
-    ensures { IsNearestYear result second }
-{
-    let day = second.div_euclid(86_400);
-    match year_of_day(day) {
-        Some(year) => year,
-        None => { if day < 0 { i32::MIN } else { i32::MAX } }
-    }
-}
 
 /// Whether a change is asked for, and a transition makes none.
 fn is_idle(change: bool, before: &Offset, entry: &Transition) -> bool
@@ -34,18 +21,6 @@ fn is_idle(change: bool, before: &Offset, entry: &Transition) -> bool
 {
     let (before, after) = (before.offset, entry.offset);
     change && before == after
-}
-
-/// What holds before the nth entry of the table.
-fn before_entry(zone: &ZoneData, n: usize) -> Offset
-    requires { n ≤ length zone.now.table }
-    ensures { result ≡ before_entry zone.now n }
-{
-    if n == 0 {
-        zone.initial()
-    } else {
-        zone.offset_at(n - 1)
-    }
 }
 
 /// The first entry of the table that counts, from a number on.
