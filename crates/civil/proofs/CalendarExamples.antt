@@ -1,6 +1,7 @@
 -- Worked examples of the calendar's definitions. Each holds as both sides compute.
 use Rattle.std.proofs.Common.{◌≡◌, true, false, refl, ap, ◌∙◌, pos, negsuc, ◌+ℤ◌, ◌*ℤ◌}
-use Rattle.civil.specs.Calendar.{is_leap_year, days_in_month, days_of_months, leap_days_to, year_start, day_of, weekday_of, wall_second, year_second}
+use Rattle.civil.specs.Calendar.{is_leap_year, days_in_month, days_of_months, year_start, day_of, weekday_of, wall_second, year_second}
+use Rattle.civil.specs.Inside.LeapDays.{leap_days_to}
 use Rattle.civil.proofs.CalendarLemmas.{year_start-closed, day_of-is}
 
 -- the years 2024, 2000, 0 and -4 are leap, and 2023 and 1900 are not

@@ -1,6 +1,6 @@
 -- The proleptic Gregorian calendar, with a year 0, counted year by year and month by month.
 use Rattle.std.specs.Prelude.{◌≡◌, ℕ, zero, suc, ◌+◌, ◌-◌, ◌*◌, ◌%◌, ◌≤◌, Bool, not, ◌&&◌, ◌||◌, ◌==◌, if◌then◌else◌, [], ◌∷◌, slice_index, ℤ, pos, negsuc, ◌+ℤ◌, ◌-ℤ◌, ◌*ℤ◌, ◌<ℤ◌, ◌≤ℤ◌, neg_ℤ, unsigned_abs}
-use Rattle.std.specs.Int.{int_div_euclid, int_rem_euclid}
+use Rattle.std.specs.Int.{int_rem_euclid}
 
 -- 4 divides the year and 100 does not, or 400 divides it
 abbrev pub is_leap_year : ℤ → Bool
@@ -30,10 +30,6 @@ days_to_zero (suc n) = days_to_zero n + days_in_year (negsuc n)
 unfoldable pub year_start : ℤ → ℤ
 year_start (pos n) = pos (days_from_zero n) -ℤ pos (days_from_zero 1970)
 year_start (negsuc n) = neg_ℤ (pos (days_to_zero (suc n) + days_from_zero 1970))
-
--- the same leap days by division, rounded down: what the code computes with
-unfoldable pub leap_days_to : ℤ → ℤ
-leap_days_to y = int_div_euclid y (pos 4) -ℤ int_div_euclid y (pos 100) +ℤ int_div_euclid y (pos 400)
 
 -- the days of the first n months of the year
 unfoldable pub days_of_months : ℤ → ℕ → ℕ

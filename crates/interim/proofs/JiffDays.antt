@@ -3,7 +3,8 @@ use Rattle.std.proofs.Common.{◌≡◌, inl, inr, ℕ, zero, suc, ◌+◌, ◌-
 use Rattle.std.proofs.Common.{min}
 use Rattle.std.proofs.lemmas.Int.{by_lt_z}
 use Rattle.civil.specs.Months.{moved_year, moved_month, months_on}
-use Rattle.civil.specs.Calendar.{days_in_month, days_in_year, year_start, leap_days_to, day_of}
+use Rattle.civil.specs.Calendar.{days_in_month, days_in_year, year_start, day_of}
+use Rattle.civil.specs.Inside.LeapDays.{leap_days_to}
 use Rattle.civil.specs.Calendar.{days_of_months as months_before}
 use Rattle.civil.proofs.SignedLemmas.{signed_arith, one_part, int_rem_euclid-parts}
 use Rattle.civil.proofs.DateMoves.{month_has_days}

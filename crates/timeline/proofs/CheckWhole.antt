@@ -140,8 +140,8 @@ none_there : (z : PlainZone) → z.rule ≡ None → (f : ZoneFault) → NoRule 
 none_there z e Parts h = parts_back z None h.1
 none_there z e Order h = order_back z None h.1
 none_there z e Size h = record { initial = h.0; table = h.1; raw = if_none _ _ e }
-none_there z e Near h = (near_back z None h.1, if_none _ _ e)
-none_there z e Walls h = (walled_back z None h.1, if_none _ _ e)
+none_there z e Near h = record { table = near_back z None h.1; years = if_none _ _ e }
+none_there z e Walls h = record { table = walled_back z None h.1; years = if_none _ _ e }
 none_there z e Seam h = if_none _ _ e
 none_there z e Before h = if_none _ _ e
 none_there z e Year h = if_none _ _ e
@@ -150,8 +150,8 @@ none_back : (z : PlainZone) (f : ZoneFault) → Keeps z f → NoRule z f
 none_back z Parts h = (tt, parts_there z None h)
 none_back z Order h = (tt, order_there z None h)
 none_back z Size h = (h.initial, h.table)
-none_back z Near h = (tt, near_there z None h.0)
-none_back z Walls h = (tt, walled_there z None h.0)
+none_back z Near h = (tt, near_there z None h.table)
+none_back z Walls h = (tt, walled_there z None h.table)
 none_back z Seam h = (tt, λ n e get. tt)
 none_back z Before h = (tt, λ n e get. tt)
 none_back z Year h = (tt, λ n e get. tt)
@@ -167,8 +167,8 @@ some_there : (z : PlainZone) (r : PlainRule) → z.rule ≡ Some r → (f : Zone
 some_there z r e Parts h = parts_back z (Some (year_second r.first_year)) h.0.0.1
 some_there z r e Order h = order_back z (Some (year_second r.first_year)) h.0.0.1
 some_there z r e Size h = record { initial = h.0.0.0; table = h.0.0.1; raw = if_some _ r _ e h.0.1 }
-some_there z r e Near h = (near_back z (Some (year_second r.first_year)) h.0.0.1, if_some _ r _ e h.1)
-some_there z r e Walls h = (walled_back z (Some (year_second r.first_year)) h.0.0.1, if_some _ r _ e h.1)
+some_there z r e Near h = record { table = near_back z (Some (year_second r.first_year)) h.0.0.1; years = if_some _ r _ e h.1 }
+some_there z r e Walls h = record { table = walled_back z (Some (year_second r.first_year)) h.0.0.1; years = if_some _ r _ e h.1 }
 some_there z r e Seam h = if_some _ r _ e (seam_back z _ h.0.0.1)
 some_there z r e Before h = if_some _ r _ e (table_before-is z (length z.table) (omega arith) ∙ h.0.1)
 some_there z r e Year h = if_some _ r _ e h.1
@@ -177,8 +177,8 @@ some_back : (z : PlainZone) (r : PlainRule) → z.rule ≡ Some r → (f : ZoneF
 some_back z r e Parts h = (((tt, parts_there z (Some (year_second r.first_year)) h), tt), λ y from to. tt)
 some_back z r e Order h = (((tt, order_there z (Some (year_second r.first_year)) h), tt), λ y from to. tt)
 some_back z r e Size h = (((h.initial, h.table), some_if z.rule r (λ r. IsSmall r.raw × IsSmall (r.raw +ℤ r.extra)) e h.raw), λ y from to. tt)
-some_back z r e Near h = (((tt, near_there z (Some (year_second r.first_year)) h.0), tt), some_if z.rule r (λ r. YearsKeep r Near) e h.1)
-some_back z r e Walls h = (((tt, walled_there z (Some (year_second r.first_year)) h.0), tt), some_if z.rule r (λ r. YearsKeep r Walls) e h.1)
+some_back z r e Near h = (((tt, near_there z (Some (year_second r.first_year)) h.table), tt), some_if z.rule r (λ r. YearsKeep r Near) e h.years)
+some_back z r e Walls h = (((tt, walled_there z (Some (year_second r.first_year)) h.table), tt), some_if z.rule r (λ r. YearsKeep r Walls) e h.years)
 some_back z r e Seam h = (((tt, seam_there z _ (some_if z.rule r (λ r. Ends z (year_second r.first_year)) e h)), tt), λ y from to. tt)
 some_back z r e Before h = (
   ((tt, λ n x get. tt), sym (table_before-is z (length z.table) (omega arith)) ∙ some_if z.rule r (λ r. before_entry z (length z.table) ≡ offset_of (second_entry r r.first_year)) e h),

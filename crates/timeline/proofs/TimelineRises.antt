@@ -114,7 +114,7 @@ in_table_later : (z : PlainZone) (n : ℕ) (a b : Transition) → IsLawful z →
 in_table_later z n a b lawful at_a at_b =
     let next : suc n ≡ n + 1 = omega arith in
     let at_next : slice_get z.table (n + 1) ≡ Some b = rw (← next) at_b in
-    record { rises = lawful.order n a b at_a at_next; near = lawful.near.0 n a b at_a at_next; walled = lawful.walls.0 n a b at_a at_next }
+    record { rises = lawful.order n a b at_a at_next; near = lawful.near.table n a b at_a at_next; walled = lawful.walls.table n a b at_a at_next }
 
 -- the last of the table, and the first of the rule
 seam_later : (z : PlainZone) (r : PlainRule) (j n : ℕ) (a b : Transition) → IsLawful z → IsRuleYear z r j → j ≡ 0 → slice_get z.table n ≡ Some a
@@ -140,9 +140,9 @@ year_follows z r j n a b lawful year place a_is b_is =
     rw (before_first z r j n lawful year place, a_is, b_is)
     (in_year _ _ refl refl
     (if_some (λ r. (y : ℤ) → r.first_year ≤ℤ y → y <ℤ pos 2147483647 → IsNear (step (offset_of (second_entry r y)) (first_entry r y)) (step (offset_of (first_entry r y)) (second_entry r y)))
-    z.rule r year.rule lawful.near.1 (r.first_year +ℤ pos j) (omega (arith, ints)) year.below)
+    z.rule r year.rule lawful.near.years (r.first_year +ℤ pos j) (omega (arith, ints)) year.below)
     (if_some (λ r. (y : ℤ) → r.first_year ≤ℤ y → y <ℤ pos 2147483647 → IsWalled (step (offset_of (second_entry r y)) (first_entry r y)) (step (offset_of (first_entry r y)) (second_entry r y)))
-    z.rule r year.rule lawful.walls.1 (r.first_year +ℤ pos j) (omega (arith, ints)) year.below))
+    z.rule r year.rule lawful.walls.years (r.first_year +ℤ pos j) (omega (arith, ints)) year.below))
 
 -- where they share a second, the extra offset is 0, so they are equal
 no_flag : (raw extra : ℤ) → raw +ℤ extra ≡ raw → not (int_eq extra (pos 0)) ≡ false

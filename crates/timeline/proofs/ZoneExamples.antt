@@ -1,7 +1,8 @@
 -- Worked examples of rules, timelines, gaps and laws. Each holds as both sides compute.
 use Rattle.std.proofs.Common.{◌≡◌, true, false, refl, ap, pos, negsuc, ◌<ℤ◌, Some, None, [], ◌∷◌, arith}
 use Rattle.std.proofs.lemmas.Int.{ints}
-use Rattle.civil.specs.Calendar.{year_start, days_of_months, leap_days_to, year_second}
+use Rattle.civil.specs.Calendar.{year_start, days_of_months, year_second}
+use Rattle.civil.specs.Inside.LeapDays.{leap_days_to}
 use Rattle.civil.proofs.CalendarLemmas.{year_start-closed}
 use Rattle.timeline.specs.declared.offset.Offset.{Offset}
 use Rattle.timeline.specs.declared.offset.Transition.{Transition}

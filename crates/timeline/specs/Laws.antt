@@ -53,9 +53,6 @@ YearNeighbours P z =
     IfSome z.rule (λ r. (y : ℤ) → r.first_year ≤ℤ y → y <ℤ pos 2147483647
     → P (step (offset_of (second_entry r y)) (first_entry r y)) (step (offset_of (first_entry r y)) (second_entry r y)))
 
-abbrev pub AllNeighbours : (Step → Step → Type 0) → PlainZone → Type 0
-AllNeighbours P z = TableNeighbours P z × YearNeighbours P z
-
 -- both walls of the first are not after the second's second, and the first's second is not after both walls of the second
 pub record IsNear (a b : Step) : Type 0 where
   pub old : old_wall a ≤ℤ b.since
@@ -63,9 +60,10 @@ pub record IsNear (a b : Step) : Type 0 where
   pub to_old : a.since ≤ℤ old_wall b
   pub to_new : a.since ≤ℤ new_wall b
 
--- 4, near
-abbrev pub KeepsNear : PlainZone → Type 0
-KeepsNear = AllNeighbours IsNear
+-- 4, near: the neighbours in the table, and the two transitions of each year of the rule, are near
+pub record KeepsNear (z : PlainZone) : Type 0 where
+  pub table : TableNeighbours IsNear z
+  pub years : YearNeighbours IsNear z
 
 -- both walls of the first are not after both walls of the second
 pub record IsWalled (a b : Step) : Type 0 where
@@ -74,9 +72,10 @@ pub record IsWalled (a b : Step) : Type 0 where
   pub new_old : new_wall a ≤ℤ old_wall b
   pub new_new : new_wall a ≤ℤ new_wall b
 
--- 5, walls
-abbrev pub KeepsWalls : PlainZone → Type 0
-KeepsWalls = AllNeighbours IsWalled
+-- 5, walls: the walls of the same neighbours follow one another
+pub record KeepsWalls (z : PlainZone) : Type 0 where
+  pub table : TableNeighbours IsWalled z
+  pub years : YearNeighbours IsWalled z
 
 -- a transition lies before a second, and its walls are not after it
 pub record EndsBefore (limit : ℤ) (s : Step) : Type 0 where

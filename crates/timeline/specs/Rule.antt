@@ -1,5 +1,5 @@
 -- The days of a yearly rule, and its two transitions in a year (docs/ZONES.md, "Rules").
-use Rattle.std.specs.Prelude.{ℕ, zero, suc, ◌==◌, nat_lt, Bool, false, not, int_lt, if◌then◌else◌, ℤ, pos, ◌+ℤ◌, ◌-ℤ◌, ◌*ℤ◌, unsigned_abs}
+use Rattle.std.specs.Prelude.{ℕ, zero, suc, ◌+◌, ◌%◌, ◌==◌, nat_lt, Bool, false, not, int_lt, if◌then◌else◌, ℤ, pos, ◌+ℤ◌, ◌-ℤ◌, ◌*ℤ◌, unsigned_abs}
 use Rattle.std.specs.Ordering.{int_eq}
 use Rattle.civil.specs.Calendar.{year_start, days_of_months, weekday_of}
 use Rattle.timeline.specs.Zone.{DateRule, PlainRule}
@@ -9,9 +9,9 @@ use Rattle.timeline.specs.declared.offset.Transition.{Transition}
 abbrev pub month_start : ℤ → ℕ → ℤ
 month_start y m = year_start y +ℤ pos (days_of_months y m)
 
--- the weekday of a code, whose size is 1 for Sunday to 7 for Saturday; Monday is 0
+-- the weekday of a code, whose size is 1 for Sunday to 7 for Saturday; Monday is 0, so Sunday is 6
 abbrev pub code_weekday : ℤ → ℤ
-code_weekday code = weekday_of (pos (unsigned_abs code) +ℤ pos 2)
+code_weekday code = pos ((unsigned_abs code + 5) % 7)
 
 -- the first day with the weekday w of the n + 1 days from `from` on; within seven days there is one
 unfoldable pub first_on : ℕ → ℤ → ℤ → ℤ

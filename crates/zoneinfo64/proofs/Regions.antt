@@ -37,9 +37,7 @@ front u (v ∷ us) = by (is_high_surrogate u && is_low_surrogate v) refl
         (pair, utf16_lossy_chars us, rw e refl, high_byte pair (omega arith) ∙ sym (high_byte u (omega arith)))
 
 zero_first : (c : ℕ) (cs : List ℕ) → region_byte c ≡ 0 → region_of_chars (c ∷ cs) ≡ None
-zero_first c [] h = refl
-zero_first c (b ∷ []) h = rw h refl
-zero_first c (b ∷ d ∷ cs) h = rw h refl
+zero_first c cs h = rw h refl
 
 neither : (a b c d : Bool) (code : List ℕ) → when ((a && false && b) || (c && false && d)) code ≡ None
 neither true b true d code = refl
@@ -48,8 +46,7 @@ neither false b true d code = refl
 neither false b false d code = refl
 
 zero_second : (a c : ℕ) (cs : List ℕ) → region_byte c ≡ 0 → region_of_chars (a ∷ c ∷ cs) ≡ None
-zero_second a c [] h = rw h (neither _ _ _ _ _)
-zero_second a c (d ∷ cs) h = rw h (neither _ _ _ _ _)
+zero_second a c cs h = rw h (neither _ _ _ _ _)
 
 third : (u v : ℕ) (us : List ℕ) → region_of_chars (u ∷ v ∷ utf16_lossy_chars us) ≡ region_of_chars (u ∷ v ∷ us)
 unfolding utf16_chars

@@ -1,5 +1,5 @@
 -- The zone list that the tree of a bundle gives (docs/FORMATS.md, "Zone fields").
-use Rattle.std.specs.Prelude.{ℕ, ◌==◌, nat_le, nat_lt, Bool, true, ◌&&◌, ◌||◌, if◌then◌else◌, List, [], ◌∷◌, ◌++◌, length, map, slice_get, Option, Some, None, is_some, ℤ, pos, negsuc, ◌+ℤ◌, ◌-ℤ◌, ◌*ℤ◌, int_lt, int_le, unsigned_abs, codes}
+use Rattle.std.specs.Prelude.{ℕ, ◌==◌, nat_le, nat_lt, Bool, true, ◌&&◌, ◌||◌, if◌then◌else◌, List, [], ◌∷◌, ◌++◌, length, map, slice_get, slice_index_or, Option, Some, None, is_some, ℤ, pos, negsuc, ◌+ℤ◌, ◌-ℤ◌, ◌*ℤ◌, int_lt, int_le, unsigned_abs, codes}
 use Rattle.std.specs.Ordering.{nat_cmp, int_eq, is_lt}
 use Rattle.std.specs.Cmp.Lexicographic.{slice_cmp}
 use Rattle.std.specs.Str.{bytes_eq}
@@ -56,12 +56,19 @@ is_rule_day month code day =
     else (if int_lt (pos 0) code then between (pos 1) (pos 5) day
     else (nat_le 1 (unsigned_abs day) && nat_le (unsigned_abs day) (longest_month month)))
 
+-- five numbers that are a date
+abbrev pub is_date : ℤ → ℤ → ℤ → ℤ → ℤ → Bool
+is_date month day code seconds mode =
+    between (pos 0) (pos 11) month && between (negsuc 6) (pos 7) code && between (pos 0) (pos 86400) seconds
+    && between (pos 0) (pos 2) mode && is_rule_day (unsigned_abs month) code day
+
+-- the date that they are
+abbrev pub date_from : ℤ → ℤ → ℤ → ℤ → ℤ → DateRule
+date_from month day code seconds mode = record { month = unsigned_abs month; day = day; code = code; seconds = unsigned_abs seconds; mode = unsigned_abs mode }
+
 -- a date from its five numbers
 unfoldable pub date_rule : ℤ → ℤ → ℤ → ℤ → ℤ → Option DateRule
-date_rule month day code seconds mode =
-    when (between (pos 0) (pos 11) month && between (negsuc 6) (pos 7) code && between (pos 0) (pos 86400) seconds
-    && between (pos 0) (pos 2) mode && is_rule_day (unsigned_abs month) code day)
-    (record { month = unsigned_abs month; day = day; code = code; seconds = unsigned_abs seconds; mode = unsigned_abs mode })
+date_rule month day code seconds mode = when (is_date month day code seconds mode) (date_from month day code seconds mode)
 
 -- a rule from its eleven integers
 unfoldable pub raw_rule : List ℕ → Option RawRule
@@ -147,6 +154,10 @@ plain_zone_of rules zone = do
 abbrev pub region_byte : ℕ → ℕ
 region_byte c = if nat_lt c 128 then c else 0
 
+-- the nth character as a byte; one that is missing counts as 0
+abbrev pub region_byte_at : List ℕ → ℕ → ℕ
+region_byte_at chars n = region_byte (slice_index_or chars n 0)
+
 abbrev pub is_capital : ℕ → Bool
 is_capital c = nat_le 65 c && nat_le c 90
 
@@ -158,12 +169,9 @@ abbrev pub region_code : ℕ → ℕ → ℕ → Option (List ℕ)
 region_code a b c =
     when ((is_capital a && is_capital b && (c == 0)) || (is_digit a && is_digit b && is_digit c)) (a ∷ b ∷ c ∷ [])
 
--- the code of a region's first three characters, where missing ones count as 0
+-- the code of a region's first three characters
 abbrev pub region_of_chars : List ℕ → Option (List ℕ)
-region_of_chars [] = None
-region_of_chars (a ∷ []) = None
-region_of_chars (a ∷ b ∷ []) = region_code (region_byte a) (region_byte b) 0
-region_of_chars (a ∷ b ∷ c ∷ others) = region_code (region_byte a) (region_byte b) (region_byte c)
+region_of_chars chars = region_code (region_byte_at chars 0) (region_byte_at chars 1) (region_byte_at chars 2)
 
 abbrev pub region_of : List ℕ → Option (List ℕ)
 region_of units = region_of_chars (utf16_lossy_chars units)

@@ -2,7 +2,7 @@
 ghost use Rattle.std.specs.Prelude.{◌≡◌, ℕ, ◌+◌, ◌<◌, ◌≤◌, ◌++◌, ◌↔◌, All, map, IsTrue, IfOk, IfSome, length, vec_len, vec_capacity};
 ghost use Rattle.resb_tree.specs.Fields.{field_in, integers_in};
 ghost use Rattle.timeline.specs.Table.{sums_fit};
-ghost use Rattle.zoneinfo64.specs.Bundle.{as_i32, region_byte, region_of_chars};
+ghost use Rattle.zoneinfo64.specs.Bundle.{as_i32, region_byte, region_byte_at, region_of_chars};
 ghost use Rattle.zoneinfo64.specs.RuleView.{rule_for};
 ghost use Rattle.zoneinfo64.specs.Steps.{Reads, pair_of, offset_steps, type_offsets, integers_at, bytes_at, wide, wide_second, wide_at, seconds_of, plain_seconds, AreKnown, Leaves, used_rule, zone_rule, zone_steps};
 
@@ -21,16 +21,26 @@ fn region_byte(unit: u16) -> u8
     if unit < 128 { unit as u8 } else { 0 }
 }
 
+/// The nth unit as a byte, 0 where there is none.
+fn region_byte_at(units: &[u16], n: usize) -> u8
+    ensures { result ≡ region_byte_at units.now n }
+{
+    match units.get(n) {
+        Some(unit) => region_byte(*unit),
+        None => 0,
+    }
+}
+
 /// The region of a text: two capitals, or three digits.
 pub fn region_of(units: &[u16]) -> Option<Region>
     ensures { result ≡ region_of_chars units.now }
 {
     // A pair of surrogates is one character, which counts as 0, and so do its units.
-    match units {
-        [a, b] => Region::try_from_raw([region_byte(*a), region_byte(*b), 0]),
-        [a, b, c, ..] => Region::try_from_raw([region_byte(*a), region_byte(*b), region_byte(*c)]),
-        _ => None,
-    }
+    Region::try_from_raw([
+        region_byte_at(units, 0),
+        region_byte_at(units, 1),
+        region_byte_at(units, 2),
+    ])
 }
 
 /// 32 bits with their sign.

@@ -2,8 +2,8 @@
 ghost use Rattle.std.specs.Prelude.{◌≡◌, ◌≤◌, ◌&&◌, IfSome, option_map, unsigned_abs};
 ghost use Rattle.timeline.specs.DateView.{plain_date, raw_of};
 ghost use Rattle.timeline.specs.Ranges.{IsDateInRange, AreDatesInRange};
-ghost use Rattle.zoneinfo64.specs.Bundle.{as_i32, longest_month, between, is_rule_day, date_rule, raw_rule};
-ghost use Rattle.zoneinfo64.specs.DateWords.{is_date, date_from, by_dates};
+ghost use Rattle.zoneinfo64.specs.Bundle.{as_i32, longest_month, between, is_rule_day, is_date, date_from, date_rule, raw_rule};
+ghost use Rattle.zoneinfo64.specs.DateWords.{by_dates};
 
 use timeline::{RuleDate, RuleDates};
 

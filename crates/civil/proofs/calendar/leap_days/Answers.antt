@@ -1,5 +1,5 @@
 use Rattle.std.proofs.Common.{arith}
-use Rattle.civil.specs.Calendar.{leap_days_to}
+use Rattle.civil.specs.Inside.LeapDays.{leap_days_to}
 use Rattle.civil.proofs.SignedLemmas.{signed_arith}
 use Rattle.civil.proofs.calendar.leap_days.Goals as goal
 
