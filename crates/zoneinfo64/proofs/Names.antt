@@ -13,10 +13,11 @@ use Rattle.std.specs.Cmp.Lexicographic.{slice_cmp, nat_list_cmp_total, texts_tie
 use Rattle.std.specs.Str.{bytes_eq}
 use Rattle.std.specs.String.{string_bytes}
 use Rattle.std.proofs.lemmas.List.Elements.{All-head, All-tail}
+use Rattle.std.proofs.lemmas.List.{length-map}
 use Rattle.zoneinfo64.specs.declared.zone.Named.{Named}
 use Rattle.timeline.specs.Zone.{PlainZone}
 use Rattle.zoneinfo64.specs.Bundle.{rises, is_resolved, all_resolved}
-use Rattle.zoneinfo64.specs.NamedZone.{NamedZone, Place, IsZone, IsAlias, name_text, resolved, resolved_in, entry_named, named}
+use Rattle.zoneinfo64.specs.NamedZone.{NamedZone, Place, IsZone, IsAlias, name_text, resolved, resolved_in, entry_named, place_named, named}
 use Rattle.zoneinfo64.specs.ZoneList.{AreEntries, HasText, named_of, zones_of}
 
 abbrev pub text : Named → List ℕ
@@ -132,7 +133,7 @@ place_missing p (e ∷ xs) none =
     let rest : position_or_len p xs ≡ length xs = place_missing p xs (λ k y at_k. none (suc k) y at_k) in
     rw here (omega (arith, rest))
 
-position_found : (p : Named → Bool) (xs : List Named) (n : ℕ) → position_or_len p xs ≡ n → n < length xs → position p xs ≡ Some n
+position_found : {A : Type 0} (p : A → Bool) (xs : List A) (n : ℕ) → position_or_len p xs ≡ n → n < length xs → position p xs ≡ Some n
 position_found p xs n same lt = grind (arith, nat_tests)
 
 position_missing : (p : Named → Bool) (xs : List Named) → position_or_len p xs ≡ length xs → position p xs ≡ None
@@ -227,7 +228,31 @@ zone-found es slice zones t n are same view found =
     subst (λ (zs : List NamedZone). IsTrue (is_some (resolved_in zs (slice_get zs n))) × (resolved_in zs (slice_get zs n) ≡ named zs t)) view
     (answer_found es t n are.resolved here, found_named es t n are.texts here)
 
--- and it is what stands under that name
+-- ---- the place by the names
+
+place_from : (e : Named) (es : List Named) (t : List ℕ) (b : Bool)
+    → bytes_eq (name_text e.name) t ≡ b → has_text t e ≡ b
+    → position_or_len (has_name t) (zones_of es) ≡ position_or_len (has_text t) es
+    → position_or_len (has_name t) (zones_of (e ∷ es)) ≡ position_or_len (has_text t) (e ∷ es)
+place_from e es t true name here rest = rw (name, here) refl
+place_from e es t false name here rest = rw (name, here, rest) refl
+
+places_same : (es : List Named) (t : List ℕ) → All HasText es → position_or_len (has_name t) (zones_of es) ≡ position_or_len (has_text t) es
+places_same [] t texts = refl
+places_same (e ∷ es) t texts =
+    place_from e es t (has_text t e) (ap (λ x. bytes_eq x t) (sym (All-head HasText e es texts))) refl (places_same es t (All-tail HasText e es texts))
+
+-- the place of the text is that of the name
+pub place-found : (es slice : List Named) (zones : List NamedZone) (t : List ℕ) (n : ℕ) → AreEntries es → slice ≡ es → zones_of es ≡ zones
+    → Some n ≡ position (has_text t) slice → place_named zones t ≡ Some n
+place-found es slice zones t n are same view found =
+    let here : position (has_text t) es ≡ Some n = ap (position (has_text t)) (sym same) ∙ sym found in
+    let at : position_or_len (has_text t) es ≡ n = grind (arith, nat_tests) in
+    let within : n < length es = grind (arith, nat_tests) in
+    subst (λ (zs : List NamedZone). place_named zs t ≡ Some n) view
+    (position_found (has_name t) (zones_of es) n (places_same es t are.texts ∙ at) (omega (arith, length-map es named_of, within)))
+
+-- and what stands there is the entry of that name
 pub entry-found : (es slice : List Named) (zones : List NamedZone) (t : List ℕ) (n : ℕ) → AreEntries es → slice ≡ es → zones_of es ≡ zones
     → Some n ≡ position (has_text t) slice → slice_get zones n ≡ entry_named zones t
 entry-found es slice zones t n are same view found =

@@ -1,5 +1,5 @@
 -- A bundle as plain data: its zones by name, in order.
-use Rattle.std.specs.Prelude.{ℕ, List, slice_get, Option, Some, None, encode_utf8_all}
+use Rattle.std.specs.Prelude.{ℕ, List, slice_get, position, Option, Some, None, encode_utf8_all}
 use Rattle.std.specs.Char.Utf16.{utf16_lossy_chars}
 use Rattle.std.specs.Str.{bytes_eq}
 use Rattle.std.specs.List.{find}
@@ -45,6 +45,10 @@ resolved_in zones (Some e) = resolved zones e.place
 -- what stands under the name that is this text, or none
 abbrev pub entry_named : List NamedZone → List ℕ → Option NamedZone
 entry_named zones text = find (λ (e : NamedZone). bytes_eq (name_text e.name) text) zones
+
+-- the place of that entry, counted from 0, or none
+abbrev pub place_named : List NamedZone → List ℕ → Option ℕ
+place_named zones text = position (λ (e : NamedZone). bytes_eq (name_text e.name) text) zones
 
 -- the zone of that name, an alias replaced by the zone at its place, or none
 unfoldable pub named : List NamedZone → List ℕ → Option PlainZone

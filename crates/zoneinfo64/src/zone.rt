@@ -87,8 +87,8 @@ impl ZoneInfo64 {
 
 impl ZoneInfo64 {
     ghost use Rattle.std.specs.Prelude.{IfSome, IfNone, IsSome, None};
-    ghost use Rattle.zoneinfo64.specs.NamedZone.{named, entry_named};
-    ghost use Rattle.zoneinfo64.specs.ZoneView.{list_of, entry_of, plain_zone};
+    ghost use Rattle.zoneinfo64.specs.NamedZone.{named, entry_named, place_named};
+    ghost use Rattle.zoneinfo64.specs.ZoneView.{list_of, place_in, entry_of, plain_zone};
 
     /// The zone of that name, an IANA identifier. Names are compared character by character, and since they rise they
     /// are searched by halving.
@@ -100,6 +100,7 @@ impl ZoneInfo64 {
             (λ z. IsSome (plain_zone z) × (plain_zone z ≡ named self.now iana.now)) }
         ensures entry { IfSome result (λ z. entry_of z ≡ entry_named self.now iana.now) }
         ensures list { IfSome result (λ z. list_of z ≡ self.now) }
+        ensures place { IfSome result (λ z. place_named self.now iana.now ≡ Some (place_in z)) }
     {
         match place_of(self.entries.as_slice(), iana) {
             Some(place) => Some(Zone {

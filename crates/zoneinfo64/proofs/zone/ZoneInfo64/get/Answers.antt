@@ -1,4 +1,4 @@
-use Rattle.zoneinfo64.proofs.Names.{zone-found, entry-found, zone-missing}
+use Rattle.zoneinfo64.proofs.Names.{zone-found, entry-found, place-found, zone-missing}
 use Rattle.zoneinfo64.proofs.zone.ZoneInfo64.get.Goals as goal
 
 pub invariant_of-result : goal.invariant_of-result
@@ -15,3 +15,7 @@ returns-in-None-clause-none c = zone-missing _ _ _ _ c.self.invariant c.as_slice
 pub returns-in-Some-clause-entry : goal.returns-in-Some-clause-entry
 returns-in-Some-clause-entry c =
     entry-found _ _ _ _ _ c.self.invariant c.as_slice.ensures.value c.self.view_is c.in-Some.ensures
+
+pub returns-in-Some-clause-place : goal.returns-in-Some-clause-place
+returns-in-Some-clause-place c =
+    place-found _ _ _ _ _ c.self.invariant c.as_slice.ensures.value c.self.view_is c.in-Some.ensures
