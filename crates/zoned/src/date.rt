@@ -146,8 +146,8 @@ impl<Tz: TimeZone> Date<Tz> {
         self.date
     }
 
-    /// The whole years since another day, as of [`NaiveDate`]; `None` exactly where they are below 0. From 1999-01-02 to
-    /// 2000-01-01 there are 0.
+    /// The whole years since another day, as of [`NaiveDate`]; `None` exactly where they are below 0. From 2000-01-01 to
+    /// 2000-01-02 there are 0, and the other way `None`.
     pub fn years_since(&self, base: Date<Tz>) -> Option<u32>
         ensures some { (y : ℤ) (m d : ℕ) (y' : ℤ) (m' d' : ℕ) → IsDateOf (day_number self.now) y m d → IsDateOf (day_number base) y' m' d' → IsSome result ↔ pos 0 ≤ℤ years_between y m d y' m' d' }
         ensures value { (y : ℤ) (m d : ℕ) (y' : ℤ) (m' d' : ℕ) → IsDateOf (day_number self.now) y m d → IsDateOf (day_number base) y' m' d' → IfSome result (λ years. pos years ≡ years_between y m d y' m' d') }

@@ -102,8 +102,8 @@ impl<Tz: TimeZone> Date<Tz> {
         }
     }
 
-    /// The value of [`and_hms_opt`](Date::and_hms_opt), which has to be one: the zone keeps its law and has one offset for this wall time, a clock
-    /// shows it, and its moment is in the calendar.
+    /// The value of [`and_hms_opt`](Date::and_hms_opt). There has to be one: a clock shows this time, the zone keeps its law and has
+    /// one offset for it, and the moment is in the calendar.
     pub fn and_hms(&self, hour: u32, min: u32, sec: u32) -> DateTime<Tz>
         requires sound { Tz.sound (Tz.zone_of (date_offset self.now)) }
         requires clock { IsClock hour min sec }
@@ -116,8 +116,8 @@ impl<Tz: TimeZone> Date<Tz> {
         self.and_hms_opt(hour, min, sec).unwrap()
     }
 
-    /// The value of [`and_hms_milli_opt`](Date::and_hms_milli_opt), which has to be one: the zone keeps its law and has one offset for this wall time, a clock
-    /// shows it, and its moment is in the calendar.
+    /// The value of [`and_hms_milli_opt`](Date::and_hms_milli_opt). There has to be one: a clock shows this time, the zone keeps its law and has
+    /// one offset for it, and the moment is in the calendar.
     pub fn and_hms_milli(&self, hour: u32, min: u32, sec: u32, milli: u32) -> DateTime<Tz>
         requires sound { Tz.sound (Tz.zone_of (date_offset self.now)) }
         requires clock { IsClock hour min sec }
@@ -131,8 +131,8 @@ impl<Tz: TimeZone> Date<Tz> {
         self.and_hms_milli_opt(hour, min, sec, milli).unwrap()
     }
 
-    /// The value of [`and_hms_micro_opt`](Date::and_hms_micro_opt), which has to be one: the zone keeps its law and has one offset for this wall time, a clock
-    /// shows it, and its moment is in the calendar.
+    /// The value of [`and_hms_micro_opt`](Date::and_hms_micro_opt). There has to be one: a clock shows this time, the zone keeps its law and has
+    /// one offset for it, and the moment is in the calendar.
     pub fn and_hms_micro(&self, hour: u32, min: u32, sec: u32, micro: u32) -> DateTime<Tz>
         requires sound { Tz.sound (Tz.zone_of (date_offset self.now)) }
         requires clock { IsClock hour min sec }
@@ -146,8 +146,8 @@ impl<Tz: TimeZone> Date<Tz> {
         self.and_hms_micro_opt(hour, min, sec, micro).unwrap()
     }
 
-    /// The value of [`and_hms_nano_opt`](Date::and_hms_nano_opt), which has to be one: the zone keeps its law and has one offset for this wall time, a clock
-    /// shows it, and its moment is in the calendar.
+    /// The value of [`and_hms_nano_opt`](Date::and_hms_nano_opt). There has to be one: a clock shows this time, the zone keeps its law and has
+    /// one offset for it, and the moment is in the calendar.
     pub fn and_hms_nano(&self, hour: u32, min: u32, sec: u32, nano: u32) -> DateTime<Tz>
         requires sound { Tz.sound (Tz.zone_of (date_offset self.now)) }
         requires clock { IsClock hour min sec }
