@@ -2,6 +2,12 @@
 #![tactic(auto)]
 
 #[cfg(test)]
+mod dates_tests;
+#[cfg(test)]
+mod engine_tests;
+#[cfg(test)]
+mod jiff_tests;
+#[cfg(test)]
 mod lines_tests;
 #[cfg(test)]
 mod runs;
@@ -12,6 +18,8 @@ mod statuses_tests;
 mod tell_tests;
 #[cfg(test)]
 mod tests;
+#[cfg(test)]
+mod transitions_tests;
 mod trees;
 #[cfg(test)]
 mod zones_tests;

@@ -399,6 +399,28 @@ fn answers_lines_that_come_byte_by_byte(rt: HostRuntime) -> Result<(), Fail> {
 }
 
 #[test]
+fn answers_all_ended_lines_before_a_fault(rt: HostRuntime) -> Result<(), Fail> {
+    let alloc = rt.alloc();
+    let bundle = written(alloc, &three_zones(alloc)?)?;
+    // 97 lines, and the beginning of one more
+    let (line, answer) = MOMENTS[0];
+    let mut lines = Vec::new(alloc);
+    let mut answers = Vec::new(alloc);
+    for _ in 0..97 {
+        lines.extend_from_slice(line.as_bytes())?;
+        lines.push(b'\n')?;
+        answers.extend_from_slice(answer.as_bytes())?;
+        answers.push(b'\n')?;
+    }
+    lines.extend_from_slice(b"Test/Plus2\t1521622800\t")?;
+    assert_eq!(rt; lines.len(), 4096);
+    let (status, text) = ran_slowly(alloc, &EN, bundle, &lines, true)?;
+    assert_eq!(rt; status, Status::ReadFault);
+    assert_eq!(rt; text.as_slice(), answers.as_slice());
+    Ok(())
+}
+
+#[test]
 fn answers_long_lines(rt: HostRuntime) -> Result<(), Fail> {
     let alloc = rt.alloc();
     let (line, answer) = MOMENTS[0];

@@ -23,12 +23,44 @@ const EN: [&str; 3] = ["at", "en", "F"];
 #[test]
 fn tells_words_that_are_no_command(rt: HostRuntime) -> Result<(), Fail> {
     let alloc = rt.alloc();
-    let commands: [&[&str]; 3] = [&["at", "eu", "F"], &["load", "0"], &[]];
+    let commands: [&[&str]; 5] = [
+        &["at", "eu", "F"],
+        &["load", "0"],
+        &["load", "01"],
+        &["load", "20001"],
+        &[],
+    ];
     for args in commands {
         let bundle = written(alloc, &three_zones(alloc)?)?;
         let (status, text) = ran_over(alloc, args, bundle, FIRST_LINE.as_bytes())?;
         assert_eq!(rt; status.code(), 2);
         assert_eq!(rt; text.len(), 0);
+    }
+    Ok(())
+}
+
+#[test]
+fn sums_large_inputs_up(rt: HostRuntime) -> Result<(), Fail> {
+    let alloc = rt.alloc();
+    let rows = [
+        (
+            "1",
+            "zones 1 lines 1 moments 1 refusals 0 last 1521450000\n",
+        ),
+        (
+            "4",
+            "zones 4 lines 4 moments 3 refusals 1 last 1521874800\n",
+        ),
+    ];
+    for (count, summary) in rows {
+        let (status, text) = ran_over(
+            alloc,
+            &["load", count],
+            Vec::new(alloc),
+            FIRST_LINE.as_bytes(),
+        )?;
+        assert_eq!(rt; status.code(), 0);
+        assert_eq!(rt; text.as_slice(), summary.as_bytes());
     }
     Ok(())
 }
