@@ -10,8 +10,8 @@ use Rattle.timeline.specs.Zone.{PlainZone, PlainRule}
 use Rattle.timeline.specs.Table.{PlainSeconds, pair_of_number, transition_to, table_from, zone_from, AreEntries}
 use Rattle.timeline.specs.Timeline.{offset_or}
 use Rattle.timeline.specs.Laws.{IsSmall, KeepsOrder}
-use Rattle.timeline.specs.CheckSteps.{AreNear, AreWalled, EndBefore, TableKeeps, table_before, table_walls}
-use Rattle.timeline.specs.Apart.{IsApart, AreApart, AreSmall, EndsEarly, BeginsLate, EndsApart}
+use Rattle.timeline.specs.Inside.CheckSteps.{AreNear, AreWalled, EndBefore, TableKeeps, table_before, table_walls}
+use Rattle.timeline.specs.Inside.Apart.{IsApart, AreApart, AreSmall, EndsEarly, BeginsLate, EndsApart}
 use Rattle.timeline.proofs.LeastFaults.{all_kept}
 use Rattle.timeline.proofs.CheckWhole.{pairs_from}
 use Rattle.timeline.proofs.TimelineEntries.{is_there}

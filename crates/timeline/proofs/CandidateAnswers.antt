@@ -8,7 +8,8 @@ use Rattle.timeline.specs.declared.offset.PossibleOffset.TheVariants as possible
 use Rattle.timeline.specs.Zone.{PlainZone}
 use Rattle.timeline.specs.Timeline.{entry_at, before_entry, offset_of}
 use Rattle.timeline.specs.Laws.{IsLawful, step}
-use Rattle.timeline.specs.Lookups.{AnswersWall, answer_by, answer_from}
+use Rattle.timeline.specs.Lookups.{AnswersWall}
+use Rattle.timeline.specs.Inside.AnswerSteps.{answer_by, answer_from}
 use Rattle.timeline.proofs.Entries.{int_lt-true, int_lt-false}
 use Rattle.timeline.proofs.ChainWalls.{IsBehind, IsAhead, Skips, Repeats, Side, is_behind, is_ahead, does_skip, does_repeat, side_of, lies_between}
 use Rattle.timeline.proofs.TimelineEntries.{entry_count, entry_within, entry_there, before_next}

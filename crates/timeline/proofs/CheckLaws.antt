@@ -8,10 +8,10 @@ use Rattle.timeline.specs.declared.offset.Transition.{Transition}
 use Rattle.timeline.specs.declared.fault.ZoneFault.{ZoneFault}
 use Rattle.timeline.specs.declared.check.Walls.{Walls}
 use Rattle.timeline.specs.Timeline.{offset_of}
-use Rattle.timeline.specs.Fault.{TellsLeast}
+use Rattle.timeline.specs.Inside.LeastFaults.{TellsLeast}
 use Rattle.timeline.proofs.LeastFaults.{Told, tells-same}
 use Rattle.timeline.specs.Laws.{Step, IsSmall, IsNear, IsWalled, EndsBefore, LiesIn}
-use Rattle.timeline.specs.CheckSteps.{walls, AreNear, AreWalled, EndBefore, LieIn, EntryKeeps, KeepsAt, TableKeeps, table_before, table_walls, walls_before}
+use Rattle.timeline.specs.Inside.CheckSteps.{walls, AreNear, AreWalled, EndBefore, LieIn, EntryKeeps, KeepsAt, TableKeeps, table_before, table_walls, walls_before}
 
 -- walls by their parts
 pub walls_are : (s : Step) (a b c : ℤ) → a ≡ s.since → b ≡ s.since +ℤ int_min s.before s.after → c ≡ s.since +ℤ int_max s.before s.after

@@ -12,8 +12,9 @@ use Rattle.timeline.specs.Zone.{PlainRule, PlainZone}
 use Rattle.timeline.specs.Rule.{second_entry}
 use Rattle.timeline.specs.Timeline.{offset_of, offset_or, rule_entry, before_entry}
 use Rattle.timeline.specs.Laws.{Step, step, IsSmall, IsNear, IsWalled, EndsBefore, KeepsParts, KeepsOrder, IsLawful}
-use Rattle.timeline.specs.Fault.{Keeps, IsLeastBroken, TellsLeast}
-use Rattle.timeline.specs.CheckSteps.{walls, AreNear, AreWalled, EndBefore, TableKeeps, table_before, table_walls, walls_before, SizeKept, RuleKeeps, YearsKeep}
+use Rattle.timeline.specs.Fault.{Keeps, IsLeastBroken}
+use Rattle.timeline.specs.Inside.LeastFaults.{TellsLeast}
+use Rattle.timeline.specs.Inside.CheckSteps.{walls, AreNear, AreWalled, EndBefore, TableKeeps, table_before, table_walls, walls_before, SizeKept, RuleKeeps, YearsKeep}
 use Rattle.timeline.proofs.LeastFaults.{Told, tells-same}
 use Rattle.timeline.proofs.CheckLaws.{near-there, near-back, walled-there, walled-back, ends-there, ends-back}
 

@@ -13,8 +13,8 @@ use Rattle.timeline.specs.Zone.{PlainRule}
 use Rattle.timeline.specs.Rule.{start_entry, end_entry, start_is_first, first_entry, second_entry}
 use Rattle.timeline.specs.Timeline.{offset_of}
 use Rattle.timeline.specs.Laws.{Step, step, IsNear, IsWalled, LiesIn}
-use Rattle.timeline.specs.Fault.{TellsLeast}
-use Rattle.timeline.specs.CheckSteps.{walls, PairKeeps, YearKeeps, YearsKeep}
+use Rattle.timeline.specs.Inside.LeastFaults.{TellsLeast}
+use Rattle.timeline.specs.Inside.CheckSteps.{walls, PairKeeps, YearKeeps, YearsKeep}
 use Rattle.timeline.proofs.LeastFaults.{Told, tells-same}
 use Rattle.timeline.proofs.CheckLaws.{near-there, near-back, walled-there, walled-back, lies-there, lies-back}
 use Rattle.timeline.proofs.RuleKinds.{first_entry-same, second_entry-same}

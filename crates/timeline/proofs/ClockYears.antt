@@ -6,7 +6,7 @@ use Rattle.civil.specs.Calendar.{year_start, HoldsDay}
 use Rattle.civil.proofs.SignedLemmas.{int_div_euclid-parts}
 use Rattle.civil.proofs.CalendarLemmas.{counts_years, starts_in_order}
 use Rattle.timeline.specs.Promises.{IsOfYear}
-use Rattle.timeline.specs.YearEntries.{IsNearestYear, inside, before, after}
+use Rattle.timeline.specs.Inside.YearEntries.{IsNearestYear, inside, before, after}
 use Rattle.timeline.proofs.Entries.{below_or_not}
 
 -- a time of day on a day of a year

@@ -11,7 +11,8 @@ use Rattle.timeline.specs.declared.rule.TimeMode.TheVariants.{Wall, Standard, Ut
 use Rattle.timeline.specs.declared.rule.KindDate.{KindDate}
 use Rattle.timeline.specs.Zone.{DateRule, PlainRule}
 use Rattle.timeline.specs.Rule.{rule_second, start_is_first, start_entry, end_entry, first_entry, second_entry}
-use Rattle.timeline.specs.Kinds.{place_in_kind, places_of, time_mode, kind_date, KeptRule, kept_rule, taken_off, kind_second, kept_start, kept_end}
+use Rattle.timeline.specs.Kinds.{place_in_kind}
+use Rattle.timeline.specs.Inside.KeptRules.{places_of, time_mode, kind_date, KeptRule, kept_rule, taken_off, kind_second, kept_start, kept_end}
 use Rattle.timeline.proofs.RuleKinds.{rule_date-place}
 
 pub places_of-at : (r : DateRule) (k : ℕ) → k < 14 → get_or (places_of r) k (pos 0) ≡ place_in_kind r k

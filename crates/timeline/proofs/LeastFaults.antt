@@ -3,7 +3,8 @@ use Rattle.std.proofs.Common.{◌≡◌, ℕ, ◌+◌, ◌<◌, ◌≤◌, nat_l
 use Rattle.std.proofs.lemmas.Bool.Decides.{nat_tests}
 use Rattle.timeline.specs.declared.fault.ZoneFault.{ZoneFault}
 use Rattle.timeline.specs.declared.fault.ZoneFault.TheVariants.{Parts, Order, Size, Near, Walls, Seam, Before, Year}
-use Rattle.timeline.specs.Fault.{fault_number, TellsLeast, least_of}
+use Rattle.timeline.specs.Fault.{fault_number}
+use Rattle.timeline.specs.Inside.LeastFaults.{TellsLeast, least_of}
 
 abbrev pub Told : Type 0
 Told = Result (Unit {0}) ZoneFault

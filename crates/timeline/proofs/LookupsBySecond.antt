@@ -9,7 +9,7 @@ use Rattle.timeline.specs.Zone.{PlainZone, PlainRule}
 use Rattle.timeline.specs.Rule.{first_entry, second_entry}
 use Rattle.timeline.specs.Timeline.{entry_at, before_entry, offset_at, offset_of, table_place}
 use Rattle.timeline.specs.Laws.{IsLawful}
-use Rattle.timeline.specs.Lookups.{offset_in_year}
+use Rattle.timeline.specs.Inside.AnswerSteps.{offset_in_year}
 use Rattle.timeline.proofs.Entries.{int_lt_true, int_lt_false}
 use Rattle.timeline.specs.Promises.{IsOfYear}
 use Rattle.timeline.proofs.Chain.{is_at}

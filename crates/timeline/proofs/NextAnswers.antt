@@ -13,9 +13,9 @@ use Rattle.timeline.specs.Rule.{first_entry, second_entry}
 use Rattle.timeline.specs.Timeline.{entry_at, before_entry, offset_of, table_place}
 use Rattle.timeline.specs.Laws.{IsLawful, KeepsOrder}
 use Rattle.timeline.specs.Promises.{IsOfYear}
-use Rattle.timeline.specs.YearEntries.{entries_in, IsNearestYear, StartsInside}
+use Rattle.timeline.specs.Inside.YearEntries.{entries_in, IsNearestYear, StartsInside}
 use Rattle.timeline.specs.Transitions.{Counts, IsNext, AnswersNext, IsUpTo, IsPrev, AnswersPrev}
-use Rattle.timeline.specs.TransitionSteps.{FirstIn, FirstFrom, LastBelow, IsYearOf, IsCut, IsTableCut, year_place, is_idle}
+use Rattle.timeline.specs.Inside.TransitionSteps.{FirstIn, FirstFrom, LastBelow, IsYearOf, IsCut, IsTableCut, year_place, is_idle}
 use Rattle.timeline.proofs.Entries.{below_or_not}
 use Rattle.timeline.proofs.TimelineEntries.{IsRuleYear, table_entry, first_at, second_at, is_there, entry_within}
 use Rattle.timeline.proofs.TimelineRises.{if_some, before_first, before_second}

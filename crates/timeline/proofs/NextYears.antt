@@ -12,9 +12,9 @@ use Rattle.timeline.specs.Zone.{PlainZone, PlainRule}
 use Rattle.timeline.specs.Rule.{start_is_first, first_entry, second_entry}
 use Rattle.timeline.specs.Timeline.{entry_at, before_entry, offset_of}
 use Rattle.timeline.specs.Laws.{IsLawful}
-use Rattle.timeline.specs.YearEntries.{entries_in, rule_entries_in}
+use Rattle.timeline.specs.Inside.YearEntries.{entries_in, rule_entries_in}
 use Rattle.timeline.specs.Transitions.{Counts}
-use Rattle.timeline.specs.TransitionSteps.{FirstIn, FirstFrom, LastBelow, IsYearOf, year_place, is_idle, first_of_year, last_of_year}
+use Rattle.timeline.specs.Inside.TransitionSteps.{FirstIn, FirstFrom, LastBelow, IsYearOf, year_place, is_idle, first_of_year, last_of_year}
 use Rattle.timeline.proofs.Entries.{below_or_not}
 use Rattle.timeline.proofs.TimelineEntries.{IsRuleYear, Stands, in_table, is_first, is_second, stands, table_entry, first_at, second_at, same_second}
 use Rattle.timeline.proofs.TimelineRises.{before_first, before_second, same_rule}

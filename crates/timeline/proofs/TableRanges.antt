@@ -8,7 +8,7 @@ use Rattle.timeline.specs.declared.offset.PossibleOffset.{PossibleOffset}
 use Rattle.timeline.specs.declared.offset.PossibleOffset.TheVariants as possible
 use Rattle.timeline.specs.Zone.{PlainZone}
 use Rattle.timeline.specs.Timeline.{before_entry, offset_of}
-use Rattle.timeline.specs.Lookups.{answer_by, answer_from}
+use Rattle.timeline.specs.Inside.AnswerSteps.{answer_by, answer_from}
 use Rattle.timeline.proofs.TimelineEntries.{table_entry, before_next}
 
 range_past : {A : Type 0} (xs : List A) (k : ℕ) → k ≡ length xs → slice_range xs k (min (length xs) (k + 1)) ≡ []

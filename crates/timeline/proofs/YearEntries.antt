@@ -11,9 +11,10 @@ use Rattle.timeline.specs.Zone.{PlainZone, PlainRule}
 use Rattle.timeline.specs.Rule.{first_entry, second_entry}
 use Rattle.timeline.specs.Timeline.{offset_at, offset_of}
 use Rattle.timeline.specs.Laws.{IsLawful}
-use Rattle.timeline.specs.Lookups.{AnswersWall, answer_from, offset_in_year}
+use Rattle.timeline.specs.Lookups.{AnswersWall}
+use Rattle.timeline.specs.Inside.AnswerSteps.{answer_from, offset_in_year}
 use Rattle.timeline.specs.Promises.{IsOfYear}
-use Rattle.timeline.specs.YearEntries.{rule_entries_in, entries_in, IsNearestYear, inside, before, after, StartsInside}
+use Rattle.timeline.specs.Inside.YearEntries.{rule_entries_in, entries_in, IsNearestYear, inside, before, after, StartsInside}
 use Rattle.timeline.proofs.Entries.{int_lt_true, int_lt_false, int_lt-true, int_lt-false}
 use Rattle.timeline.proofs.TimelineEntries.{same_second}
 use Rattle.timeline.proofs.TimelineYears.{years_rise}

@@ -1,5 +1,5 @@
 -- The laws by their numbers, and the least of those that are broken (docs/ZONES.md, "Laws").
-use Rattle.std.specs.Prelude.{◌≡◌, ℕ, ◌<◌, nat_lt, if◌then◌else◌, Result, Ok, Err}
+use Rattle.std.specs.Prelude.{◌≡◌, ℕ, ◌<◌}
 use Rattle.timeline.specs.declared.fault.ZoneFault.{ZoneFault}
 use Rattle.timeline.specs.declared.fault.ZoneFault.TheVariants.{Parts, Order, Size, Near, Walls, Seam, Before, Year}
 use Rattle.timeline.specs.Zone.{PlainZone}
@@ -34,15 +34,3 @@ KeepsLaw k z = (f : ZoneFault) → fault_number f ≡ k → Keeps z f
 pub record IsLeastBroken (z : PlainZone) (f : ZoneFault) : Type 0 where
   pub broken : Keeps z f → ⊥
   pub others : (g : ZoneFault) → fault_number g < fault_number f → Keeps z g
-
--- ---- steps of the checker
-
--- all are kept, or the one that is told is the least that is not
-abbrev pub TellsLeast : (ZoneFault → Type 0) → Result (Unit {0}) ZoneFault → Type 0
-TellsLeast K (Ok x) = (f : ZoneFault) → K f
-TellsLeast K (Err f) = (K f → ⊥) × ((g : ZoneFault) → fault_number g < fault_number f → K g)
-
-abbrev pub least_of : Result (Unit {0}) ZoneFault → Result (Unit {0}) ZoneFault → Result (Unit {0}) ZoneFault
-least_of (Ok x) other = other
-least_of (Err f) (Ok x) = Err f
-least_of (Err f) (Err g) = if nat_lt (fault_number g) (fault_number f) then Err g else Err f

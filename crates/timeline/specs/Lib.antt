@@ -7,16 +7,9 @@ pub mod Timeline
 pub mod Placement
 pub mod Laws
 pub mod Lookups
-pub mod YearEntries
 pub mod Transitions
-pub mod TransitionSteps
 pub mod Fault
-pub mod CheckSteps
-pub mod Apart
 pub mod Equal
 pub mod Promises
-pub mod DataView
 pub mod DateView
-pub mod PlacedView
-pub mod ZoneRuleView
-pub mod KeptView
+pub mod Inside

@@ -1,5 +1,5 @@
 -- What the look-ups of a zone answer (docs/ZONES.md, "Look-ups").
-use Rattle.std.specs.Prelude.{◌≡◌, ℕ, ◌≤◌, if◌then◌else◌, int_lt, List, [], ◌∷◌, Option, Some, None, unwrap_or, ℤ, pos, ◌+ℤ◌, ◌-ℤ◌, ◌<ℤ◌, ◌≤ℤ◌}
+use Rattle.std.specs.Prelude.{◌≡◌, ℕ, ◌≤◌, Some, ℤ, pos, ◌+ℤ◌, ◌-ℤ◌, ◌<ℤ◌, ◌≤ℤ◌}
 use Rattle.civil.specs.Calendar.{days_in_month}
 use Rattle.civil.specs.Clock.{IsClock}
 use Rattle.timeline.specs.declared.offset.Offset.{Offset}
@@ -7,7 +7,7 @@ use Rattle.timeline.specs.declared.offset.Transition.{Transition}
 use Rattle.timeline.specs.declared.offset.PossibleOffset.{PossibleOffset}
 use Rattle.timeline.specs.declared.offset.PossibleOffset.TheVariants as possible
 use Rattle.timeline.specs.Zone.{PlainZone}
-use Rattle.timeline.specs.Timeline.{entry_at, offset_at, offset_of}
+use Rattle.timeline.specs.Timeline.{entry_at, offset_at}
 use Rattle.timeline.specs.Placement.{IsNeverShown, IsShownOnce, IsShownTwice}
 
 -- the second of an entry, with what holds just before it and from it on
@@ -38,24 +38,6 @@ abbrev pub placing : PossibleOffset → Offset
 placing (possible.Single o) = o
 placing (possible.Ambiguous before after transition) = before
 placing (possible.None before after transition) = before
-
--- what a transition says of a wall second, with what holds before it: that this holds, where the wall second is before both
--- walls; its two sides, where it is between them; and nothing where it is after both
-abbrev pub answer_by : ℤ → Offset → Transition → Option PossibleOffset
-answer_by w before e =
-    if int_lt w (e.since +ℤ before.offset)
-    then Some (if int_lt w (e.since +ℤ e.offset) then possible.Single before else possible.Ambiguous before (offset_of e) e.since)
-    else (if int_lt w (e.since +ℤ e.offset) then Some (possible.None before (offset_of e) e.since) else None)
-
--- what the first of some transitions in a row says that says something, or else what the last one brings
-unfoldable pub answer_from : ℤ → Offset → List Transition → PossibleOffset
-answer_from w before [] = possible.Single before
-answer_from w before (e ∷ later) = unwrap_or (answer_by w before e) (answer_from w (offset_of e) later)
-
--- what the two transitions of a year bring at a second, with what holds before the first
-abbrev pub offset_in_year : ℤ → Offset → Transition → Transition → Offset
-offset_in_year t before first second =
-    if int_lt t first.since then before else (if int_lt t second.since then offset_of first else offset_of second)
 
 -- a month has this day, and a clock shows this time
 pub record IsDateTime (y : ℤ) (month day h m s : ℕ) : Type 0 where

@@ -5,10 +5,11 @@ ghost use Rattle.std.specs.Int.{int_div_euclid};
 ghost use Rattle.timeline.specs.Zone.{PlainRule};
 ghost use Rattle.timeline.specs.Rule.{second_entry};
 ghost use Rattle.timeline.specs.Timeline.{offset_of};
-ghost use Rattle.timeline.specs.Kinds.{kept_rule};
+ghost use Rattle.timeline.specs.Inside.KeptRules.{kept_rule};
 ghost use Rattle.timeline.specs.Laws.{IsSmall, step};
-ghost use Rattle.timeline.specs.Fault.{TellsLeast, Keeps};
-ghost use Rattle.timeline.specs.CheckSteps.{walls, AreNear, AreWalled, EndBefore, BeginFrom, LieIn, InPart, EntryKeeps, TableKeeps, table_before, PairKeeps, YearKeeps, YearsKeep, RuleKeeps, SizeKept};
+ghost use Rattle.timeline.specs.Fault.{Keeps};
+ghost use Rattle.timeline.specs.Inside.LeastFaults.{TellsLeast};
+ghost use Rattle.timeline.specs.Inside.CheckSteps.{walls, AreNear, AreWalled, EndBefore, BeginFrom, LieIn, InPart, EntryKeeps, TableKeeps, table_before, PairKeeps, YearKeeps, YearsKeep, RuleKeeps, SizeKept};
 
 use crate::data::ZoneData;
 use crate::dates::ZoneRule;

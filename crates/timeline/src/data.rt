@@ -32,7 +32,7 @@ impl Model for ZoneData {
 
     ghost Value = { PlainZone };
 
-    ghost use Rattle.timeline.specs.DataView.{data_view, HasEntries};
+    ghost use Rattle.timeline.specs.Inside.DataView.{data_view, HasEntries};
 
     ghost view = { data_view };
 

@@ -4,7 +4,8 @@ ghost use Rattle.std.specs.Prelude.{◌≡◌, ◌&&◌, ◌+◌, ◌<◌, ◌�
 ghost use Rattle.civil.specs.Calendar.{year_start, year_kind, days_of_months, weekday_of};
 ghost use Rattle.timeline.specs.Zone.{DateRule, fits_i32, plain_rule};
 ghost use Rattle.timeline.specs.Rule.{first_on, last_on, start_is_first};
-ghost use Rattle.timeline.specs.Kinds.{place_in_kind, places_of, time_mode, kept_rule};
+ghost use Rattle.timeline.specs.Kinds.{place_in_kind};
+ghost use Rattle.timeline.specs.Inside.KeptRules.{places_of, time_mode, kept_rule};
 ghost use Rattle.timeline.specs.DateView.{plain_date, raw_of};
 ghost use Rattle.timeline.specs.Equal.{same_date, same_rule};
 ghost use Rattle.timeline.specs.Ranges.{IsDateInRange, AreDatesInRange};
@@ -44,7 +45,7 @@ impl Model for PlacedDates {
 
     ghost Value = { RawRule };
 
-    ghost use Rattle.timeline.specs.PlacedView.{raw_view, HasPlaces};
+    ghost use Rattle.timeline.specs.Inside.PlacedView.{raw_view, HasPlaces};
 
     ghost view = { raw_view };
 
@@ -63,7 +64,7 @@ impl Model for ZoneRule {
 
     ghost Value = { PlainRule };
 
-    ghost use Rattle.timeline.specs.ZoneRuleView.{rule_view, HasYears};
+    ghost use Rattle.timeline.specs.Inside.ZoneRuleView.{rule_view, HasYears};
 
     ghost view = { rule_view };
 
@@ -262,7 +263,7 @@ impl ZoneRule {
     }
 
     /// What tells its years.
-    pub fn years(&self) -> &YearRule
+    pub(crate) fn years(&self) -> &YearRule
         ensures { result.now ≡ kept_rule self.now }
     {
         &self.years

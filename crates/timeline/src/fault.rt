@@ -1,5 +1,6 @@
 ghost use Rattle.std.specs.Prelude.{◌≡◌};
-ghost use Rattle.timeline.specs.Fault.{fault_number, least_of};
+ghost use Rattle.timeline.specs.Fault.{fault_number};
+ghost use Rattle.timeline.specs.Inside.LeastFaults.{least_of};
 
 /// The law that a zone breaks, the least of them by its number.
 #[derive(Clone, Copy, PartialEq, Eq, Debug)]

@@ -3,11 +3,12 @@ ghost use Rattle.std.specs.Prelude.{◌≡◌, ◌+◌, ◌-◌, ◌*◌, ◌^�
 ghost use Rattle.civil.specs.Calendar.{year_second, day_of, wall_second};
 ghost use Rattle.timeline.specs.Zone.{PlainRule};
 ghost use Rattle.timeline.specs.Rule.{first_entry, second_entry};
-ghost use Rattle.timeline.specs.Kinds.{kept_rule};
+ghost use Rattle.timeline.specs.Inside.KeptRules.{kept_rule};
 ghost use Rattle.timeline.specs.Laws.{KeepsOrder, IsLawful};
 ghost use Rattle.timeline.specs.Timeline.{table_place, before_entry, offset_at, offset_of};
-ghost use Rattle.timeline.specs.Lookups.{AnswersWall, IsDateTime, answer_by, answer_from, offset_in_year};
-ghost use Rattle.timeline.specs.YearEntries.{rule_entries_in, entries_in, IsNearestYear, StartsInside};
+ghost use Rattle.timeline.specs.Lookups.{AnswersWall, IsDateTime};
+ghost use Rattle.timeline.specs.Inside.AnswerSteps.{answer_by, answer_from, offset_in_year};
+ghost use Rattle.timeline.specs.Inside.YearEntries.{rule_entries_in, entries_in, IsNearestYear, StartsInside};
 
 use crate::data::ZoneData;
 use crate::dates::ZoneRule;

@@ -6,7 +6,7 @@ ghost use Rattle.timeline.specs.Zone.{fits_i32};
 ghost use Rattle.timeline.specs.Zone.{PlainRule};
 ghost use Rattle.timeline.specs.Rule.{first_entry, second_entry};
 ghost use Rattle.timeline.specs.Timeline.{offset_of};
-ghost use Rattle.timeline.specs.Kinds.{KeptRule, kept_rule, kind_second, taken_off, kept_start, kept_end};
+ghost use Rattle.timeline.specs.Inside.KeptRules.{KeptRule, kept_rule, kind_second, taken_off, kept_start, kept_end};
 
 use crate::offset::{Offset, Transition, UtcOffset};
 use civil::{days_before_year, year_kind};
@@ -46,11 +46,11 @@ pub struct YearRule {
 }
 
 impl Model for YearRule {
-    ghost use Rattle.timeline.specs.Kinds.{KeptRule};
+    ghost use Rattle.timeline.specs.Inside.KeptRules.{KeptRule};
 
     ghost Value = { KeptRule };
 
-    ghost use Rattle.timeline.specs.KeptView.{kept_view, IsKept};
+    ghost use Rattle.timeline.specs.Inside.KeptView.{kept_view, IsKept};
 
     ghost view = { kept_view };
 
@@ -147,7 +147,7 @@ impl KindDate {
 }
 
 impl YearRule {
-    ghost use Rattle.timeline.specs.KeptView.{IsKept};
+    ghost use Rattle.timeline.specs.Inside.KeptView.{IsKept};
 
     /// A rule of these parts.
     pub fn new(

@@ -4,9 +4,9 @@ ghost use Rattle.timeline.specs.Zone.{PlainRule};
 ghost use Rattle.civil.specs.Calendar.{year_second};
 ghost use Rattle.timeline.specs.Laws.{IsLawful, KeepsOrder};
 ghost use Rattle.timeline.specs.declared.lookups.YearEntries.TheVariants as told;
-ghost use Rattle.timeline.specs.YearEntries.{entries_in, IsNearestYear, StartsInside};
+ghost use Rattle.timeline.specs.Inside.YearEntries.{entries_in, IsNearestYear, StartsInside};
 ghost use Rattle.timeline.specs.Transitions.{IsUpTo, AnswersNext, AnswersPrev};
-ghost use Rattle.timeline.specs.TransitionSteps.{FirstIn, FirstFrom, LastBelow, IsTableCut, IsYearOf, year_place, is_idle, first_of_year, last_of_year};
+ghost use Rattle.timeline.specs.Inside.TransitionSteps.{FirstIn, FirstFrom, LastBelow, IsTableCut, IsYearOf, year_place, is_idle, first_of_year, last_of_year};
 
 use crate::data::ZoneData;
 use crate::lookups::{YearEntries, before_entry, entries_of, nearest_year, table_place};

@@ -3,8 +3,8 @@
 ghost use Rattle.std.specs.Prelude.{◌↔◌, IsTrue};
 ghost use Rattle.timeline.specs.declared.fault.ZoneFault.{ZoneFault as Fault};
 ghost use Rattle.timeline.specs.Laws.{KeepsOrder};
-ghost use Rattle.timeline.specs.CheckSteps.{TableKeeps};
-ghost use Rattle.timeline.specs.Apart.{IsApart, AreApart, EndsEarly, BeginsLate, EndsApart};
+ghost use Rattle.timeline.specs.Inside.CheckSteps.{TableKeeps};
+ghost use Rattle.timeline.specs.Inside.Apart.{IsApart, AreApart, EndsEarly, BeginsLate, EndsApart};
 
 use crate::data::ZoneData;
 use std::sync::ledger::Ledger;

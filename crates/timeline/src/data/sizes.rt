@@ -39,7 +39,7 @@ fn are_small_pairs(pairs: &[(i32, i32)]) -> bool
 
 impl ZoneData {
     ghost use Rattle.std.specs.Prelude.{IsTrue};
-    ghost use Rattle.timeline.specs.Apart.{AreSmall};
+    ghost use Rattle.timeline.specs.Inside.Apart.{AreSmall};
 
     /// Whether the offset of each pair is less than a day, and so the initial one and all of the table.
     pub(crate) fn has_small_offsets(&self) -> bool

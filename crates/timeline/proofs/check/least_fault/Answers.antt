@@ -4,9 +4,9 @@ use Rattle.civil.specs.Calendar.{year_second}
 use Rattle.timeline.specs.declared.offset.Offset.{Offset}
 use Rattle.timeline.specs.declared.fault.ZoneFault.{ZoneFault}
 use Rattle.timeline.specs.Zone.{PlainRule}
-use Rattle.timeline.specs.Kinds.{KeptRule}
-use Rattle.timeline.specs.Fault.{TellsLeast}
-use Rattle.timeline.specs.CheckSteps.{TableKeeps, SizeKept, RuleKeeps, YearsKeep, table_before}
+use Rattle.timeline.specs.Inside.KeptRules.{KeptRule}
+use Rattle.timeline.specs.Inside.LeastFaults.{TellsLeast}
+use Rattle.timeline.specs.Inside.CheckSteps.{TableKeeps, SizeKept, RuleKeeps, YearsKeep, table_before}
 use Rattle.timeline.proofs.LeastFaults.{Told, tells-both}
 use Rattle.timeline.proofs.KeptRules.{kept-year}
 use Rattle.timeline.proofs.CheckWhole.{T, NoRule, WithRule, none_told, some_told}

@@ -1,6 +1,6 @@
 use Rattle.std.proofs.Common.{◌≡◌, ◌+ℤ◌, true, false, IsTrue, to_z-of_z, FitsSigned, w32, sym, ap, ◌∙◌, rules}
-use Rattle.timeline.specs.Kinds.{KeptRule, kept_rule}
-use Rattle.timeline.specs.CheckSteps.{RuleKeeps}
+use Rattle.timeline.specs.Inside.KeptRules.{KeptRule, kept_rule}
+use Rattle.timeline.specs.Inside.CheckSteps.{RuleKeeps}
 use Rattle.timeline.proofs.KeptRules.{kept-raw, kept-extra}
 use Rattle.timeline.proofs.LeastFaults.{size_broken, before_broken, all_kept}
 use Rattle.timeline.proofs.CheckLaws.{small_moved}

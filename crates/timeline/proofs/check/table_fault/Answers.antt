@@ -1,8 +1,8 @@
 use Rattle.std.proofs.Common.{◌≡◌, ℕ, ◌<◌, ◌+◌, nat_lt, to_z, of_z, to_z-of_z, FitsSigned, w32, rules, refl, sym, ap, subst, ◌∙◌, arith}
 use Rattle.timeline.specs.declared.offset.Offset.{Offset}
-use Rattle.timeline.specs.Fault.{TellsLeast}
+use Rattle.timeline.specs.Inside.LeastFaults.{TellsLeast}
 use Rattle.timeline.specs.Laws.{step}
-use Rattle.timeline.specs.CheckSteps.{walls, KeepsAt, table_walls}
+use Rattle.timeline.specs.Inside.CheckSteps.{walls, KeepsAt, table_walls}
 use Rattle.timeline.proofs.LeastFaults.{Told, tells_more}
 use Rattle.timeline.proofs.CheckLaws.{entry_told, next_before, next_walls, table_told, nothing_told}
 use Rattle.timeline.proofs.check.table_fault.Goals as goal

@@ -1,6 +1,6 @@
 use Rattle.std.proofs.Common.{◌≡◌, ℕ, ◌<◌}
-use Rattle.timeline.specs.Fault.{TellsLeast}
-use Rattle.timeline.specs.CheckSteps.{KeepsAt, table_before, walls_before}
+use Rattle.timeline.specs.Inside.LeastFaults.{TellsLeast}
+use Rattle.timeline.specs.Inside.CheckSteps.{KeepsAt, table_before, walls_before}
 use Rattle.timeline.proofs.check.table_fault.Given as goal
 
 abbrev pub invariant-loop-n : goal.invariant-loop-n

@@ -4,7 +4,7 @@ use Rattle.civil.proofs.SignedLemmas.{signed_arith}
 use Rattle.timeline.specs.Rule.{first_entry, second_entry}
 use Rattle.timeline.specs.Timeline.{offset_of}
 use Rattle.timeline.specs.Laws.{step}
-use Rattle.timeline.specs.CheckSteps.{walls}
+use Rattle.timeline.specs.Inside.CheckSteps.{walls}
 use Rattle.timeline.proofs.CheckYears.{year_told}
 use Rattle.timeline.proofs.check.year_fault.Goals as goal
 

@@ -2,9 +2,9 @@ use Rattle.std.proofs.Common.{◌≡◌, ℕ, ◌<◌, ◌+◌, ℤ, pos, ◌+�
 use Rattle.std.specs.Int.{int_div_euclid}
 use Rattle.civil.proofs.SignedLemmas.{signed_arith}
 use Rattle.timeline.specs.declared.fault.ZoneFault.{ZoneFault}
-use Rattle.timeline.specs.Kinds.{KeptRule}
-use Rattle.timeline.specs.Fault.{TellsLeast}
-use Rattle.timeline.specs.CheckSteps.{YearKeeps}
+use Rattle.timeline.specs.Inside.KeptRules.{KeptRule}
+use Rattle.timeline.specs.Inside.LeastFaults.{TellsLeast}
+use Rattle.timeline.specs.Inside.CheckSteps.{YearKeeps}
 use Rattle.timeline.proofs.KeptRules.{kept-year}
 use Rattle.timeline.proofs.LeastFaults.{Told, tells_more}
 use Rattle.timeline.proofs.CheckYears.{sample, years_told}

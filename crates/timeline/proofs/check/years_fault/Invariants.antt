@@ -1,9 +1,9 @@
 use Rattle.std.proofs.Common.{◌≡◌, ℕ, ◌+◌, ◌<◌, pos, ◌+ℤ◌, ◌-ℤ◌}
 use Rattle.civil.specs.Calendar.{example_year}
 use Rattle.timeline.specs.Zone.{PlainRule}
-use Rattle.timeline.specs.Kinds.{kept_rule}
-use Rattle.timeline.specs.Fault.{TellsLeast}
-use Rattle.timeline.specs.CheckSteps.{YearKeeps}
+use Rattle.timeline.specs.Inside.KeptRules.{kept_rule}
+use Rattle.timeline.specs.Inside.LeastFaults.{TellsLeast}
+use Rattle.timeline.specs.Inside.CheckSteps.{YearKeeps}
 use Rattle.timeline.proofs.check.years_fault.Given as goal
 
 abbrev pub invariant-loop-kind : goal.invariant-loop-kind

@@ -1,7 +1,8 @@
 use Rattle.std.proofs.Common.{◌≢◌, ◌<◌, length, pos, sym, ◌∙◌, refl, below_more, to_z, of_z, to_z-of_z, FitsSigned, w16, w32, rules, arith}
 use Rattle.std.proofs.lemmas.List.{get_or-set_same, get_or-set_other, length-set}
 use Rattle.std.proofs.lemmas.List.FromFn.{fill_by_all}
-use Rattle.timeline.specs.Kinds.{place_in_kind, places_of}
+use Rattle.timeline.specs.Kinds.{place_in_kind}
+use Rattle.timeline.specs.Inside.KeptRules.{places_of}
 use Rattle.timeline.specs.DateView.{plain_date}
 use Rattle.timeline.proofs.dates.places.Goals as goal
 

@@ -1,5 +1,5 @@
 use Rattle.std.proofs.Common.{◌≡◌, drop}
-use Rattle.timeline.specs.Lookups.{answer_from}
+use Rattle.timeline.specs.Inside.AnswerSteps.{answer_from}
 use Rattle.timeline.proofs.lookups.answer_from.Given as goal
 
 abbrev pub invariant-loop-entry : goal.invariant-loop-entry

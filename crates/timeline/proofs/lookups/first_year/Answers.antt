@@ -1,6 +1,6 @@
 use Rattle.std.proofs.Common.{rules, w32, FitsSigned, ◌∙◌}
 use Rattle.std.proofs.lemmas.Int.{to_z-of_z}
-use Rattle.timeline.specs.Kinds.{kept_rule}
+use Rattle.timeline.specs.Inside.KeptRules.{kept_rule}
 use Rattle.timeline.proofs.lookups.first_year.Goals as goal
 
 pub returns-clause-value : goal.returns-clause-value

@@ -1,6 +1,6 @@
 use Rattle.std.proofs.Common.{◌≡◌, length, w32, FitsSigned, rules, sym, ap, ◌∙◌, arith}
 use Rattle.std.proofs.lemmas.Int.{ints, to_z-of_z}
-use Rattle.timeline.specs.TransitionSteps.{IsYearOf, year_place}
+use Rattle.timeline.specs.Inside.TransitionSteps.{IsYearOf, year_place}
 use Rattle.timeline.proofs.KeptRules.{kept-year}
 use Rattle.timeline.proofs.transitions.first_of_rule.Goals as goal
 

@@ -1,7 +1,7 @@
 use Rattle.std.proofs.Common.{◌≡◌, ℕ, ◌+◌, ◌<◌, Some}
 use Rattle.std.specs.Prelude.{slice_get, option_map}
 use Rattle.timeline.specs.declared.offset.Transition.{Transition}
-use Rattle.timeline.specs.Apart.{IsApart}
+use Rattle.timeline.specs.Inside.Apart.{IsApart}
 use Rattle.timeline.proofs.check.apart.are_apart.Given as goal
 
 abbrev pub invariant-loop-n : goal.invariant-loop-n

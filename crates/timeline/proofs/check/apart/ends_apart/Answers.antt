@@ -1,6 +1,6 @@
 use Rattle.std.proofs.Common.{ℤ, Option, ◌-◌, w64, rules, FitsSigned, sym, subst, arith}
 use Rattle.std.proofs.lemmas.Int.{ints, to_z-of_z}
-use Rattle.timeline.specs.Apart.{EndsApart}
+use Rattle.timeline.specs.Inside.Apart.{EndsApart}
 use Rattle.timeline.proofs.Apart.{end_shown}
 use Rattle.timeline.proofs.check.apart.ends_apart.Goals as goal
 

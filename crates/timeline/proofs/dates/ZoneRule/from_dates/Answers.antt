@@ -1,7 +1,7 @@
 use Rattle.std.proofs.Common.{to_z-of_z, FitsSigned, w32, rules, refl, ap, ◌∙◌}
 use Rattle.timeline.specs.declared.rule.KindDate.{KindDate}
-use Rattle.timeline.specs.Kinds.{KeptRule}
-use Rattle.timeline.specs.ZoneRuleView.{rule_view}
+use Rattle.timeline.specs.Inside.KeptRules.{KeptRule}
+use Rattle.timeline.specs.Inside.ZoneRuleView.{rule_view}
 use Rattle.timeline.specs.DateView.{plain_date}
 use Rattle.timeline.proofs.KeptRules.{kept_from, kind_date_from}
 use Rattle.timeline.proofs.dates.ZoneRule.from_dates.Goals as goal

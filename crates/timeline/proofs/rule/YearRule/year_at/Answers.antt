@@ -3,7 +3,7 @@ use Rattle.civil.specs.Calendar.{year_start, year_kind}
 use Rattle.civil.proofs.SignedLemmas.{signed_arith}
 use Rattle.timeline.specs.Zone.{PlainRule}
 use Rattle.timeline.specs.Timeline.{offset_of}
-use Rattle.timeline.specs.Kinds.{KeptRule, kept_rule}
+use Rattle.timeline.specs.Inside.KeptRules.{KeptRule, kept_rule}
 use Rattle.timeline.proofs.KeptRules.{InOrder, in_order}
 use Rattle.timeline.proofs.rule.YearRule.year_at.Given.{Over}
 use Rattle.timeline.proofs.rule.YearRule.year_at.Goals as goal

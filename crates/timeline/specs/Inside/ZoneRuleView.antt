@@ -2,7 +2,7 @@
 use Rattle.std.specs.Prelude.{◌≡◌}
 use Rattle.timeline.specs.Zone.{PlainRule, plain_rule}
 use Rattle.timeline.specs.Ranges.{AreDatesInRange}
-use Rattle.timeline.specs.Kinds.{kept_rule}
+use Rattle.timeline.specs.Inside.KeptRules.{kept_rule}
 use Rattle.timeline.specs.DateView.{raw_of}
 use Rattle.timeline.specs.declared.dates.ZoneRule.TheInside.{Inside}
 

@@ -1,7 +1,7 @@
 -- The plain rule of a `PlacedDates`, and what is true of it.
 use Rattle.std.specs.Prelude.{◌≡◌}
 use Rattle.timeline.specs.Zone.{RawRule}
-use Rattle.timeline.specs.Kinds.{places_of}
+use Rattle.timeline.specs.Inside.KeptRules.{places_of}
 use Rattle.timeline.specs.Ranges.{AreDatesInRange}
 use Rattle.timeline.specs.DateView.{plain_date, raw_of}
 use Rattle.timeline.specs.declared.dates.PlacedDates.TheInside.{Inside}

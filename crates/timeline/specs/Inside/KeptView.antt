@@ -1,7 +1,7 @@
 -- What a `YearRule` keeps, and what is true of it.
 use Rattle.std.specs.Prelude.{IsTrue, pos, negsuc, ◌+ℤ◌, ◌≤ℤ◌}
 use Rattle.timeline.specs.Zone.{fits_i32}
-use Rattle.timeline.specs.Kinds.{KeptRule}
+use Rattle.timeline.specs.Inside.KeptRules.{KeptRule}
 use Rattle.timeline.specs.declared.rule.YearRule.TheInside.{Inside}
 
 abbrev pub kept_view : Inside → KeptRule
