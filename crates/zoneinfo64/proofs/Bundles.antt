@@ -13,7 +13,7 @@ use Rattle.zoneinfo64.specs.NamedZone.{NamedZone}
 use Rattle.timeline.specs.Table.{sums_fit}
 use Rattle.zoneinfo64.specs.Bundle.{rules_of, as_i32, pairs_of, offset_pairs, rule_named, final_rule, plain_zone_of, place_of, named_zone, named_zones, rises, all_resolved, zone_list, zones_of_words}
 use Rattle.zoneinfo64.proofs.Regions.{region_is}
-use Rattle.zoneinfo64.specs.Steps.{Reads, pair_of, offset_steps, type_offsets, integers_at, bytes_at, wide_at, used_rule, rule_fields, zone_rule, zone_steps, place_by, place_steps, named_steps, list_steps, are_arrays, array_in, table_in, checked_steps, root_steps}
+use Rattle.zoneinfo64.specs.Inside.Steps.{Reads, pair_of, offset_steps, type_offsets, integers_at, bytes_at, wide_at, used_rule, rule_fields, zone_rule, zone_steps, place_by, place_steps, named_steps, list_steps, are_arrays, array_in, table_in, checked_steps, root_steps}
 
 abbrev Find : Type 0
 Find = List ℕ → Option RawRule

@@ -5,7 +5,7 @@ use Rattle.std.proofs.lemmas.Option.{slice_get_within, slice_get_cases}
 use Rattle.std.proofs.lemmas.Bool.Decides.{nat_tests}
 use Rattle.timeline.specs.Zone.{PlainZone}
 use Rattle.zoneinfo64.specs.NamedZone.{NamedZone, zone_at}
-use Rattle.zoneinfo64.specs.CheckedZone.{IsVerdict, AreVerdicts}
+use Rattle.zoneinfo64.specs.Inside.Verdicts.{IsVerdict, AreVerdicts}
 use Rattle.timeline.specs.declared.fault.ZoneFault.{ZoneFault}
 
 -- the verdict on a zone that stands at a place

@@ -18,7 +18,7 @@ use Rattle.zoneinfo64.specs.declared.zone.Named.{Named}
 use Rattle.timeline.specs.Zone.{PlainZone}
 use Rattle.zoneinfo64.specs.Bundle.{rises, is_resolved, all_resolved}
 use Rattle.zoneinfo64.specs.NamedZone.{NamedZone, Place, IsZone, IsAlias, name_text, resolved, resolved_in, entry_named, place_named, named}
-use Rattle.zoneinfo64.specs.ZoneList.{AreEntries, HasText, named_of, zones_of}
+use Rattle.zoneinfo64.specs.Inside.ZoneList.{AreEntries, HasText, named_of, zones_of}
 
 abbrev pub text : Named → List ℕ
 text e = string_bytes e.text

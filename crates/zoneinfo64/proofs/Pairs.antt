@@ -5,8 +5,8 @@ use Rattle.std.proofs.lemmas.List.{take_all}
 use Rattle.timeline.specs.Zone.{fits_i32}
 use Rattle.timeline.specs.Table.{sums_fit}
 use Rattle.zoneinfo64.specs.Bundle.{as_i32}
-use Rattle.zoneinfo64.specs.Steps.{pair_of, offset_steps}
-use Rattle.zoneinfo64.specs.Steps.{with_front}
+use Rattle.zoneinfo64.specs.Inside.Steps.{pair_of, offset_steps}
+use Rattle.zoneinfo64.specs.Inside.Steps.{with_front}
 use Rattle.zoneinfo64.proofs.Fronts.{front_grows}
 
 pair_on : (front : List (ℤ × ℤ)) (a b : ℕ) (p : ℤ × ℤ) (words : List ℕ) (total : Option (List (ℤ × ℤ))) → pair_of a b ≡ Some p

@@ -3,7 +3,7 @@ use Rattle.std.proofs.Common.{◌≡◌, ℕ, ◌+◌, ◌<◌, ◌≤◌, List,
 use Rattle.zoneinfo64.specs.declared.zone.Named.{Named}
 use Rattle.zoneinfo64.specs.NamedZone.{NamedZone}
 use Rattle.zoneinfo64.specs.Bundle.{is_resolved, all_resolved}
-use Rattle.zoneinfo64.specs.ZoneList.{named_of, zones_of}
+use Rattle.zoneinfo64.specs.Inside.ZoneList.{named_of, zones_of}
 
 next : (all : List NamedZone) (entries : List Named) (at : ℕ) (e : Named) → at < length entries → e ≡ get_or entries at e
     → all_resolved all (zones_of (drop at entries)) ≡ (is_resolved all (named_of e).place && all_resolved all (zones_of (drop (at + 1) entries)))

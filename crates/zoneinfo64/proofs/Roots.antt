@@ -5,7 +5,7 @@ use Rattle.zoneinfo64.specs.declared.error.BinaryDeserializerError.{BinaryDeseri
 use Rattle.zoneinfo64.specs.declared.error.BinaryDeserializerError.TheVariants as errors
 use Rattle.timeline.specs.Zone.{RawRule}
 use Rattle.zoneinfo64.specs.Bundle.{rules_of}
-use Rattle.zoneinfo64.specs.Steps.{Reads, ReadsRules, Leaves, array_in, table_in, root_steps}
+use Rattle.zoneinfo64.specs.Inside.Steps.{Reads, ReadsRules, Leaves, array_in, table_in, root_steps}
 
 -- where a part is not read, the whole is not
 pub broken : {X Y V W : Type 0} (part_view : X → V) (view : Y → W) (e : BinaryDeserializerError) (part : Option V) (whole : Option W) → (part ≡ None → whole ≡ None) → Reads part_view (Err e) part → Reads view (Err e) whole

@@ -16,8 +16,8 @@ use Rattle.zoneinfo64.specs.declared.error.BinaryDeserializerError.{BinaryDeseri
 use Rattle.zoneinfo64.specs.declared.error.BinaryDeserializerError.TheVariants as errors
 use Rattle.timeline.specs.Zone.{RawRule}
 use Rattle.zoneinfo64.specs.Bundle.{raw_rule, rules_of, rule_named}
-use Rattle.zoneinfo64.specs.RuleView.{rule_for}
-use Rattle.zoneinfo64.specs.Steps.{Reads, ReadsRules, HasRules, rule_in}
+use Rattle.zoneinfo64.specs.Inside.RuleView.{rule_for}
+use Rattle.zoneinfo64.specs.Inside.Steps.{Reads, ReadsRules, HasRules, rule_in}
 
 abbrev Key : Type 0
 Key = Vec ℕ Global

@@ -8,7 +8,7 @@ use Rattle.civil.proofs.SignedLemmas.{signed_arith, one_part}
 use Rattle.zoneinfo64.specs.Bundle.{between, longest_month, is_rule_day, as_i32, is_date, date_from, date_rule, raw_rule}
 use Rattle.timeline.specs.Zone.{DateRule, RawRule}
 use Rattle.timeline.specs.Ranges.{IsDateInRange}
-use Rattle.zoneinfo64.specs.DateWords.{by_dates}
+use Rattle.zoneinfo64.specs.Inside.DateWords.{by_dates}
 
 pub date_given : (month day code seconds mode : ℤ) → is_date month day code seconds mode ≡ true → date_rule month day code seconds mode ≡ Some (date_from month day code seconds mode)
 unfolding date_rule

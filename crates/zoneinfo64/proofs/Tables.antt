@@ -7,7 +7,7 @@ use Rattle.std.proofs.lemmas.Option.{slice_get-get_or, slice_get_within}
 use Rattle.timeline.specs.declared.offset.Transition.{Transition}
 use Rattle.timeline.specs.Table.{transition_to, table_from}
 use Rattle.zoneinfo64.specs.Bundle.{as_i32, table_of}
-use Rattle.zoneinfo64.specs.Steps.{wide, wide_second, AreKnown}
+use Rattle.zoneinfo64.specs.Inside.Steps.{wide, wide_second, AreKnown}
 
 -- where each second has the number of a pair there is a table
 pub table_given : (pairs : List (ℤ × ℤ)) (seconds : List ℤ) (numbers : List ℕ) → AreKnown pairs seconds numbers → table_of pairs seconds numbers ≡ Some (table_from pairs seconds numbers)

@@ -7,7 +7,7 @@ use Rattle.timeline.specs.declared.offset.Offset.{Offset}
 use Rattle.timeline.specs.Zone.{RawRule, PlainRule}
 use Rattle.timeline.specs.Table.{PlainSeconds, pair_offset, pair_of_number, zone_from}
 use Rattle.zoneinfo64.specs.Bundle.{as_i32, table_of}
-use Rattle.zoneinfo64.specs.Steps.{Leaves, AreKnown, type_offsets, initial_of, integers_at, bytes_at, wide, wide_at, seconds_of, plain_seconds, zone_rule, zone_steps}
+use Rattle.zoneinfo64.specs.Inside.Steps.{Leaves, AreKnown, type_offsets, initial_of, integers_at, bytes_at, wide, wide_at, seconds_of, plain_seconds, zone_rule, zone_steps}
 use Rattle.zoneinfo64.proofs.Tables.{table_given, table_refused}
 
 -- the lists of a zone were read

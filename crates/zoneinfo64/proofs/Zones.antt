@@ -8,8 +8,8 @@ use Rattle.resb_tree.specs.declared.resource.Resource.{Resource}
 use Rattle.zoneinfo64.specs.declared.zone.Named.{Named}
 use Rattle.timeline.specs.Zone.{RawRule}
 use Rattle.zoneinfo64.specs.NamedZone.{NamedZone}
-use Rattle.zoneinfo64.specs.Steps.{Reads, named_steps, list_steps}
-use Rattle.zoneinfo64.specs.ZoneList.{named_of, zones_of}
+use Rattle.zoneinfo64.specs.Inside.Steps.{Reads, named_steps, list_steps}
+use Rattle.zoneinfo64.specs.Inside.ZoneList.{named_of, zones_of}
 use Rattle.zoneinfo64.proofs.Bundles.{in_a_row, none_after}
 
 -- what is still read, and what was read behind it

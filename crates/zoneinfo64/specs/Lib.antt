@@ -3,16 +3,13 @@ pub mod Bundle
 pub mod Texts
 pub mod Promises
 pub mod ZoneView
-pub mod RuleView
-pub mod DateWords
 pub mod RegionView
 pub mod Utf16View
-pub mod ZoneList
 pub mod CheckedZone
-pub mod Steps
 pub mod ShownOffsets
 pub mod ZoneOffsets
 pub mod OffsetView
 pub mod EqualNames
 pub mod EqualZones
 pub mod EqualPer
+pub mod Inside

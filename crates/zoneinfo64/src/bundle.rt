@@ -3,9 +3,9 @@ ghost use Rattle.std.specs.Prelude.{◌≡◌, length, All, IfOk, is_some};
 ghost use Rattle.zoneinfo64.specs.NamedZone.{zone_at};
 ghost use Rattle.resb_tree.specs.Header.{tree_of};
 ghost use Rattle.zoneinfo64.specs.Bundle.{rises, is_resolved, all_resolved};
-ghost use Rattle.zoneinfo64.specs.RuleView.{rule_for};
-ghost use Rattle.zoneinfo64.specs.Steps.{Reads, place_steps, named_steps, list_steps, array_in, table_in, Leaves, is_before, are_arrays, checked_steps, root_steps};
-ghost use Rattle.zoneinfo64.specs.ZoneList.{zones_of, named_of, place_of_item, HasText, AreEntries};
+ghost use Rattle.zoneinfo64.specs.Inside.RuleView.{rule_for};
+ghost use Rattle.zoneinfo64.specs.Inside.Steps.{Reads, place_steps, named_steps, list_steps, array_in, table_in, Leaves, is_before, are_arrays, checked_steps, root_steps};
+ghost use Rattle.zoneinfo64.specs.Inside.ZoneList.{zones_of, named_of, place_of_item, HasText, AreEntries};
 
 use crate::error::BinaryDeserializerError;
 use crate::fields::{region_of, zone_data};
@@ -17,7 +17,7 @@ use sqlite_items::Items;
 use std::alloc::Global;
 
 /// A zone, or the place of one.
-#[tactic(auto, unfolding(crate::specs::Steps::place_steps))]
+#[tactic(auto, unfolding(crate::specs::Inside::Steps::place_steps))]
 fn item(alloc: Global, rules: &Rules, zone: Resource) -> Result<Item, BinaryDeserializerError>
     ensures { Reads place_of_item result (place_steps (rule_for rules.now) zone) }
 {
@@ -31,7 +31,7 @@ fn item(alloc: Global, rules: &Rules, zone: Resource) -> Result<Item, BinaryDese
 }
 
 /// One zone with its name and region. The units of the name are moved.
-#[tactic(auto, unfolding(crate::specs::Steps::named_steps))]
+#[tactic(auto, unfolding(crate::specs::Inside::Steps::named_steps))]
 fn named(
     alloc: Global,
     rules: &Rules,
@@ -111,7 +111,7 @@ fn rises(entries: &[Named]) -> bool
 }
 
 /// Takes an array out of the root.
-#[tactic(auto, unfolding(crate::specs::Steps::array_in))]
+#[tactic(auto, unfolding(crate::specs::Inside::Steps::array_in))]
 fn array(root: &mut Resource, key: &[u8]) -> Result<Items<Resource>, BinaryDeserializerError>
     ensures items { Reads (λ items. items) result (array_in key.now root.old) }
     ensures others { Leaves key.now root.old root.new }
@@ -125,7 +125,7 @@ fn array(root: &mut Resource, key: &[u8]) -> Result<Items<Resource>, BinaryDeser
     }
 }
 
-#[tactic(auto, unfolding(crate::specs::Steps::table_in))]
+#[tactic(auto, unfolding(crate::specs::Inside::Steps::table_in))]
 fn table<'a>(
     root: &'a Resource,
     key: &[u8],
@@ -183,7 +183,7 @@ fn are_arrays(zones: &[Resource], names: &[Resource], regions: &[Resource]) -> b
 }
 
 /// The zones of three arrays.
-#[tactic(auto, unfolding(crate::specs::Steps::checked_steps))]
+#[tactic(auto, unfolding(crate::specs::Inside::Steps::checked_steps))]
 fn checked_zones(
     alloc: Global,
     rules: &Rules,
@@ -206,7 +206,7 @@ fn checked_zones(
 }
 
 /// The zones of the tree of a bundle.
-#[tactic(auto, unfolding(crate::specs::Steps::root_steps))]
+#[tactic(auto, unfolding(crate::specs::Inside::Steps::root_steps))]
 fn zones_in(alloc: Global, mut root: Resource) -> Result<Vec<Named>, BinaryDeserializerError>
     ensures zones { Reads (λ v. zones_of v.items) result (root_steps root) }
     ensures entries { IfOk result (λ v. AreEntries v.items) }

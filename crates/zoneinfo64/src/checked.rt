@@ -1,7 +1,8 @@
 //! The zones of a bundle, each checked once.
 ghost use Rattle.std.specs.Prelude.{◌≡◌, ◌<◌, length, IfOk, IfSome, Some, slice_get};
 ghost use Rattle.zoneinfo64.specs.NamedZone.{zone_at};
-ghost use Rattle.zoneinfo64.specs.CheckedZone.{IsVerdict, IsChecked, AreVerdicts};
+ghost use Rattle.zoneinfo64.specs.CheckedZone.{IsChecked};
+ghost use Rattle.zoneinfo64.specs.Inside.Verdicts.{IsVerdict, AreVerdicts};
 
 use crate::zone::{Zone, ZoneInfo64};
 use std::alloc::{AllocError, Global};
@@ -22,7 +23,7 @@ pub struct CheckedZones {
 impl Model for CheckedZones {
     ghost use Rattle.std.specs.Prelude.{List};
     ghost use Rattle.zoneinfo64.specs.NamedZone.{NamedZone};
-    ghost use Rattle.zoneinfo64.specs.CheckedZone.{AreVerdicts};
+    ghost use Rattle.zoneinfo64.specs.Inside.Verdicts.{AreVerdicts};
 
     ghost Value = { List NamedZone };
 

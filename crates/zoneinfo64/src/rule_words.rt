@@ -3,7 +3,7 @@ ghost use Rattle.std.specs.Prelude.{◌≡◌, ◌≤◌, ◌&&◌, IfSome, opti
 ghost use Rattle.timeline.specs.DateView.{plain_date, raw_of};
 ghost use Rattle.timeline.specs.Ranges.{IsDateInRange, AreDatesInRange};
 ghost use Rattle.zoneinfo64.specs.Bundle.{as_i32, longest_month, between, is_rule_day, is_date, date_from, date_rule, raw_rule};
-ghost use Rattle.zoneinfo64.specs.DateWords.{by_dates};
+ghost use Rattle.zoneinfo64.specs.Inside.DateWords.{by_dates};
 
 use timeline::{RuleDate, RuleDates};
 

@@ -3,8 +3,8 @@ ghost use Rattle.std.specs.Prelude.{◌≡◌, IfOk, option_map};
 ghost use Rattle.std.specs.Option.{option_copied};
 ghost use Rattle.resb_tree.specs.Fields.{integers_in};
 ghost use Rattle.zoneinfo64.specs.Bundle.{rules_of, raw_rule};
-ghost use Rattle.zoneinfo64.specs.RuleView.{rule_for};
-ghost use Rattle.zoneinfo64.specs.Steps.{Reads, ReadsRules, rule_in};
+ghost use Rattle.zoneinfo64.specs.Inside.RuleView.{rule_for};
+ghost use Rattle.zoneinfo64.specs.Inside.Steps.{Reads, ReadsRules, rule_in};
 
 use crate::error::BinaryDeserializerError;
 use crate::rule_words::dates;
@@ -28,7 +28,7 @@ fn units(alloc: Global, key: &[u8]) -> Result<Vec<u16>, AllocError>
 }
 
 /// The rule of a list of eleven integers.
-#[tactic(auto, unfolding(crate::specs::Steps::rule_in))]
+#[tactic(auto, unfolding(crate::specs::Inside::Steps::rule_in))]
 fn rule(value: &Resource) -> Result<PlacedDates, BinaryDeserializerError>
     ensures { Reads (λ r. r) result (rule_in value.now) }
 {

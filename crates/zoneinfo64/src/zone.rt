@@ -38,7 +38,7 @@ impl Model for ZoneInfo64 {
 
     ghost Value = { List NamedZone };
 
-    ghost use Rattle.zoneinfo64.specs.ZoneList.{zones_of, AreEntries};
+    ghost use Rattle.zoneinfo64.specs.Inside.ZoneList.{zones_of, AreEntries};
 
     ghost view = { λ a. zones_of a.entries.items };
 
@@ -56,7 +56,7 @@ pub struct Zone<'a> {
 impl ZoneInfo64 {
     ghost use Rattle.std.specs.Prelude.{◌<◌, length};
     ghost use Rattle.zoneinfo64.specs.NamedZone.{zone_at};
-    ghost use Rattle.zoneinfo64.specs.ZoneList.{zones_of, AreEntries, seen_data};
+    ghost use Rattle.zoneinfo64.specs.Inside.ZoneList.{zones_of, AreEntries, seen_data};
 
     /// The bundle of these entries, whose names rise.
     pub(crate) fn from_entries(entries: Vec<Named>) -> ZoneInfo64
@@ -115,7 +115,7 @@ impl ZoneInfo64 {
 ghost use Rattle.std.specs.Prelude.{position};
 ghost use Rattle.std.specs.Str.{bytes_eq};
 ghost use Rattle.std.specs.String.{string_bytes};
-ghost use Rattle.zoneinfo64.specs.ZoneList.{AreEntries};
+ghost use Rattle.zoneinfo64.specs.Inside.ZoneList.{AreEntries};
 ghost use Rattle.zoneinfo64.specs.declared.zone.Named.{Named};
 
 /// The place of the entry of that name.
@@ -359,7 +359,7 @@ impl<'a> Zone<'a> {
     }
 }
 
-ghost use Rattle.zoneinfo64.specs.ZoneList.{named_of};
+ghost use Rattle.zoneinfo64.specs.Inside.ZoneList.{named_of};
 ghost use Rattle.std.specs.Prelude.{Some};
 
 impl Zone<'_> {

@@ -1,5 +1,5 @@
 use Rattle.std.proofs.Common.{sym}
-use Rattle.zoneinfo64.specs.ZoneList.{zones_of}
+use Rattle.zoneinfo64.specs.Inside.ZoneList.{zones_of}
 use Rattle.zoneinfo64.proofs.Resolved.{resolved_on, resolved_not, resolved_end}
 use Rattle.zoneinfo64.proofs.bundle.all_resolved.Goals as goal
 

@@ -1,6 +1,6 @@
 use Rattle.std.proofs.Common.{◌≡◌, drop}
 use Rattle.zoneinfo64.specs.Bundle.{all_resolved}
-use Rattle.zoneinfo64.specs.ZoneList.{zones_of}
+use Rattle.zoneinfo64.specs.Inside.ZoneList.{zones_of}
 use Rattle.zoneinfo64.proofs.bundle.all_resolved.Given as goal
 
 -- the entries that are left decide

@@ -4,7 +4,7 @@ use Rattle.std.specs.declared.alloc.Global.{Global}
 use Rattle.std.proofs.lemmas.List.Elements.{All-push}
 use Rattle.std.proofs.lemmas.Result.{err_from_is_err_and}
 use Rattle.zoneinfo64.specs.declared.zone.Named.{Named}
-use Rattle.zoneinfo64.specs.ZoneList.{zones_of, named_of, HasText}
+use Rattle.zoneinfo64.specs.Inside.ZoneList.{zones_of, named_of, HasText}
 use Rattle.zoneinfo64.proofs.Zones.{Turn, fewer_zones_left, fewer_names_left, zone_read, broken_list, list_whole}
 use Rattle.zoneinfo64.proofs.bundle.named_zones.Goals as goal
 

@@ -1,7 +1,7 @@
 use Rattle.std.proofs.Common.{◌≡◌, ◌≤◌, All, length, take, reverse}
-use Rattle.zoneinfo64.specs.RuleView.{rule_for}
-use Rattle.zoneinfo64.specs.Steps.{list_steps}
-use Rattle.zoneinfo64.specs.ZoneList.{zones_of, HasText}
+use Rattle.zoneinfo64.specs.Inside.RuleView.{rule_for}
+use Rattle.zoneinfo64.specs.Inside.Steps.{list_steps}
+use Rattle.zoneinfo64.specs.Inside.ZoneList.{zones_of, HasText}
 use Rattle.zoneinfo64.proofs.Zones.{with_back}
 use Rattle.zoneinfo64.proofs.bundle.named_zones.Given as goal
 

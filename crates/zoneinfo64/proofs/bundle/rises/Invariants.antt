@@ -1,6 +1,6 @@
 use Rattle.std.proofs.Common.{◌≡◌, ◌-◌, drop}
 use Rattle.zoneinfo64.specs.Bundle.{rises}
-use Rattle.zoneinfo64.specs.ZoneList.{zones_of}
+use Rattle.zoneinfo64.specs.Inside.ZoneList.{zones_of}
 use Rattle.zoneinfo64.proofs.bundle.rises.Given as goal
 
 -- the neighbours that are left decide

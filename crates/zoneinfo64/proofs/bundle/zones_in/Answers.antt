@@ -5,9 +5,9 @@ use Rattle.std.specs.declared.alloc.Global.{Global}
 use Rattle.std.proofs.lemmas.Result.{err_from_is_err_and}
 use Rattle.resb_tree.specs.declared.resource.Resource.{Resource}
 use Rattle.zoneinfo64.specs.declared.zone.Named.{Named}
-use Rattle.zoneinfo64.specs.RuleView.{rule_for}
-use Rattle.zoneinfo64.specs.Steps.{array_in, table_in, root_steps}
-use Rattle.zoneinfo64.specs.ZoneList.{zones_of}
+use Rattle.zoneinfo64.specs.Inside.RuleView.{rule_for}
+use Rattle.zoneinfo64.specs.Inside.Steps.{array_in, table_in, root_steps}
+use Rattle.zoneinfo64.specs.Inside.ZoneList.{zones_of}
 use Rattle.zoneinfo64.proofs.Bundles.{root_with}
 use Rattle.zoneinfo64.proofs.Roots.{broken, rules_broken, names_left, regions_left, rules_left, no_names, no_regions, no_table, no_rules}
 use Rattle.zoneinfo64.proofs.bundle.zones_in.Goals as goal

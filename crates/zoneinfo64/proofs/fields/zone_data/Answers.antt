@@ -1,6 +1,6 @@
 use Rattle.std.proofs.Common.{◌≡◌, ◌<◌, length, codes, true, false, Some, refl, sym, ap, ◌∙◌, arith}
-use Rattle.zoneinfo64.specs.RuleView.{rule_for}
-use Rattle.zoneinfo64.specs.Steps.{seconds_of, AreKnown}
+use Rattle.zoneinfo64.specs.Inside.RuleView.{rule_for}
+use Rattle.zoneinfo64.specs.Inside.Steps.{seconds_of, AreKnown}
 use Rattle.zoneinfo64.proofs.ZoneReads.{AreRead, no_table, some_len, zone_read, taken, integers_left}
 use Rattle.zoneinfo64.proofs.fields.zone_data.Goals as goal
 

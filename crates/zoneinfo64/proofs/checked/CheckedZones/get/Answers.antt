@@ -2,7 +2,7 @@ use Rattle.std.proofs.Common.{◌≡◌, ℕ, ◌<◌, length, List, Option, Som
 use Rattle.timeline.specs.Zone.{PlainZone}
 use Rattle.zoneinfo64.specs.NamedZone.{NamedZone, named, zone_at}
 use Rattle.zoneinfo64.specs.ZoneView.{list_of, plain_zone}
-use Rattle.zoneinfo64.specs.CheckedZone.{IsVerdict, AreVerdicts}
+use Rattle.zoneinfo64.specs.Inside.Verdicts.{IsVerdict, AreVerdicts}
 use Rattle.timeline.specs.declared.fault.ZoneFault.{ZoneFault}
 use Rattle.std.specs.List.{slice_get}
 use Rattle.zoneinfo64.proofs.CheckedPlaces.{found_at, found_within}

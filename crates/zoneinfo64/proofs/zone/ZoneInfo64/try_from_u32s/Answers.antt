@@ -1,7 +1,7 @@
 use Rattle.std.proofs.Common.{◌∙◌, Vec}
 use Rattle.std.specs.declared.alloc.Global.{Global}
 use Rattle.std.proofs.lemmas.Result.{err_from_is_err_and}
-use Rattle.zoneinfo64.specs.ZoneList.{zones_of}
+use Rattle.zoneinfo64.specs.Inside.ZoneList.{zones_of}
 use Rattle.zoneinfo64.specs.declared.zone.Named.{Named}
 use Rattle.zoneinfo64.proofs.Bundles.{words_are, no_list}
 use Rattle.zoneinfo64.proofs.zone.ZoneInfo64.try_from_u32s.Goals as goal

@@ -18,7 +18,7 @@ use Rattle.timeline.specs.Table.{PlainSeconds, pair_offset}
 use Rattle.timeline.specs.Zone.{RawRule, PlainRule, PlainZone, fits_i32, plain_rule}
 use Rattle.zoneinfo64.specs.NamedZone.{NamedZone, Place, IsZone, IsAlias, name_text}
 use Rattle.zoneinfo64.specs.Bundle.{as_i32, wide_seconds, first_of, list_or_empty, region_of_chars, rises, all_resolved, raw_rule, rules_of, rule_named, table_of}
-use Rattle.zoneinfo64.specs.RuleView.{rule_for}
+use Rattle.zoneinfo64.specs.Inside.RuleView.{rule_for}
 
 -- what was read is what there is; or there is none; or memory ran out
 abbrev pub Reads : {X Y : Type 0} → (X → Y) → Result X BinaryDeserializerError → Option Y → Type 0
