@@ -11,6 +11,7 @@ use Rattle.timeline.specs.declared.rule.TimeMode.TheVariants.{Wall, Standard, Ut
 use Rattle.timeline.specs.declared.rule.KindDate.{KindDate}
 use Rattle.timeline.specs.Zone.{DateRule, PlainRule}
 use Rattle.timeline.specs.Rule.{rule_second, start_is_first, start_entry, end_entry, first_entry, second_entry}
+use Rattle.timeline.specs.DateView.{mode_number}
 use Rattle.timeline.specs.Kinds.{place_in_kind}
 use Rattle.timeline.specs.Inside.KeptRules.{places_of, time_mode, kind_date, KeptRule, kept_rule, taken_off, kind_second, kept_start, kept_end}
 use Rattle.timeline.proofs.RuleKinds.{rule_date-place}
@@ -77,6 +78,12 @@ kept_from r k a b c d e f =
   where
     made : KindDate → KindDate → ℤ → ℤ → Bool → ℤ → KeptRule
     made start end extra raw first year = record { start = start; end = end; extra = extra; raw = raw; start_is_first = first; first_year = year }
+
+-- a mode is told back from its number
+pub mode_back : (m : TimeMode) → time_mode (mode_number m) ≡ m
+mode_back Wall = refl
+mode_back Standard = refl
+mode_back Utc = refl
 
 pub kind_date_from : (r : DateRule) (d : KindDate) → d.places ≡ places_of r → d.seconds ≡ r.seconds → d.mode ≡ time_mode r.mode → d ≡ kind_date r
 kind_date_from r d a b c =

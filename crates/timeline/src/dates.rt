@@ -5,8 +5,8 @@ ghost use Rattle.civil.specs.Calendar.{year_start, year_kind, days_of_months, we
 ghost use Rattle.timeline.specs.Zone.{DateRule, fits_i32, plain_rule};
 ghost use Rattle.timeline.specs.Rule.{first_on, last_on, start_is_first};
 ghost use Rattle.timeline.specs.Kinds.{place_in_kind};
-ghost use Rattle.timeline.specs.Inside.KeptRules.{places_of, time_mode, kept_rule};
-ghost use Rattle.timeline.specs.DateView.{plain_date, raw_of};
+ghost use Rattle.timeline.specs.Inside.KeptRules.{places_of, kept_rule};
+ghost use Rattle.timeline.specs.DateView.{mode_number, plain_date, raw_of};
 ghost use Rattle.timeline.specs.Equal.{same_date, same_rule};
 ghost use Rattle.timeline.specs.Ranges.{IsDateInRange, AreDatesInRange};
 
@@ -14,17 +14,17 @@ use crate::rule::{KindDate, TimeMode, YearRule};
 use civil::days_before_month;
 use std::marker::Model;
 
-/// One of the two dates of a rule: its five numbers.
+/// One of the two dates of a rule: its month, day, weekday code and seconds, and what these are counted by.
 #[derive(Clone, Copy)]
 pub struct RuleDate {
     month: u32,
     day: i32,
     code: i32,
     seconds: u32,
-    mode: u32,
+    mode: TimeMode,
 }
 
-/// The dates of a rule, with the extra offset that its start adds: its eleven numbers.
+/// The dates of a rule, with the extra offset that its start adds.
 #[derive(Clone, Copy)]
 pub struct RuleDates {
     start: RuleDate,
@@ -150,9 +150,9 @@ fn places(date: RuleDate) -> [i16; 14]
 }
 
 impl RuleDate {
-    /// A date of these five numbers.
-    pub fn new(month: u32, day: i32, code: i32, seconds: u32, mode: u32) -> RuleDate
-        ensures { plain_date result ≡ record { month = month; day = day; code = code; seconds = seconds; mode = mode } }
+    /// A date of these four numbers, with what its seconds are counted by.
+    pub fn new(month: u32, day: i32, code: i32, seconds: u32, mode: TimeMode) -> RuleDate
+        ensures { plain_date result ≡ record { month = month; day = day; code = code; seconds = seconds; mode = mode_number mode } }
     {
         RuleDate {
             month,
@@ -171,7 +171,7 @@ impl RuleDate {
             && self.day == other.day
             && self.code == other.code
             && self.seconds == other.seconds
-            && self.mode == other.mode
+            && self.mode.is_same(other.mode)
     }
 }
 
@@ -207,16 +207,6 @@ impl PlacedDates {
     }
 }
 
-fn mode(number: u32) -> TimeMode
-    ensures { result ≡ time_mode number }
-{
-    match number {
-        0 => TimeMode::Wall,
-        1 => TimeMode::Standard,
-        _ => TimeMode::Utc,
-    }
-}
-
 /// Whether the start is a year's first transition.
 fn start_is_first(dates: &RuleDates) -> bool
     ensures { (raw first_year : ℤ) → result ≡ start_is_first (plain_rule (raw_of dates.now) raw first_year) }
@@ -246,8 +236,8 @@ impl ZoneRule {
     {
         let dates = placed.dates;
         raw.checked_add(dates.extra)?;
-        let start = KindDate::new(placed.start, dates.start.seconds, mode(dates.start.mode));
-        let end = KindDate::new(placed.end, dates.end.seconds, mode(dates.end.mode));
+        let start = KindDate::new(placed.start, dates.start.seconds, dates.start.mode);
+        let end = KindDate::new(placed.end, dates.end.seconds, dates.end.mode);
         let first = start_is_first(&dates);
         Some(ZoneRule {
             dates,

@@ -17,4 +17,5 @@ pub use data::ZoneData;
 pub use dates::{PlacedDates, RuleDate, RuleDates, ZoneRule};
 pub use fault::ZoneFault;
 pub use offset::{Offset, PossibleOffset, Transition, UtcOffset};
+pub use rule::TimeMode;
 pub use seconds::Seconds;

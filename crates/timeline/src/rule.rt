@@ -14,7 +14,7 @@ use std::marker::Model;
 use std::sync::ledger::Ledger;
 use steps::Steps;
 
-/// What the seconds of the day of a transition are counted by.
+/// What the seconds of the day of a rule's date are counted by.
 #[derive(Clone, Copy)]
 pub enum TimeMode {
     /// What clocks show before it.
@@ -58,6 +58,21 @@ impl Model for YearRule {
 }
 
 impl TimeMode {
+    ghost use Rattle.std.specs.Prelude.{nat_eq};
+    ghost use Rattle.timeline.specs.DateView.{mode_number};
+
+    /// Whether two modes are one.
+    pub(crate) fn is_same(self, other: TimeMode) -> bool
+        ensures { result ≡ nat_eq (mode_number self) (mode_number other) }
+    {
+        match (self, other) {
+            (TimeMode::Wall, TimeMode::Wall) => true,
+            (TimeMode::Standard, TimeMode::Standard) => true,
+            (TimeMode::Utc, TimeMode::Utc) => true,
+            _ => false,
+        }
+    }
+
     /// What a time of day is ahead of UTC, with the offset before it and the standard offset.
     fn taken_off(self, before: i32, raw: i32) -> i32
         ensures { result ≡ taken_off self before raw }

@@ -1,11 +1,11 @@
 //! The dates of a yearly rule, from the eleven integers that a bundle has for it.
 ghost use Rattle.std.specs.Prelude.{◌≡◌, ◌≤◌, ◌&&◌, IfSome, option_map, unsigned_abs};
-ghost use Rattle.timeline.specs.DateView.{plain_date, raw_of};
+ghost use Rattle.timeline.specs.DateView.{mode_number, plain_date, raw_of};
 ghost use Rattle.timeline.specs.Ranges.{IsDateInRange, AreDatesInRange};
 ghost use Rattle.zoneinfo64.specs.Bundle.{as_i32, longest_month, between, is_rule_day, is_date, date_from, date_rule, raw_rule};
 ghost use Rattle.zoneinfo64.specs.Inside.DateWords.{by_dates};
 
-use timeline::{RuleDate, RuleDates};
+use timeline::{RuleDate, RuleDates, TimeMode};
 
 /// 32 bits with their sign.
 fn signed(word: u32) -> i32
@@ -75,7 +75,20 @@ fn is_date(month: u32, day: u32, code: u32, seconds: u32, mode: u32) -> bool
     )
 }
 
+/// What the seconds of a date are counted by.
+fn mode_of(word: u32) -> TimeMode
+    requires { unsigned_abs (as_i32 word) ≤ 2 }
+    ensures { mode_number result ≡ unsigned_abs (as_i32 word) }
+{
+    match size(word) {
+        0 => TimeMode::Wall,
+        1 => TimeMode::Standard,
+        _ => TimeMode::Utc,
+    }
+}
+
 fn date_from(month: u32, day: u32, code: u32, seconds: u32, mode: u32) -> RuleDate
+    requires { unsigned_abs (as_i32 mode) ≤ 2 }
     ensures { plain_date result ≡ date_from (as_i32 month) (as_i32 day) (as_i32 code) (as_i32 seconds) (as_i32 mode) }
 {
     RuleDate::new(
@@ -83,7 +96,7 @@ fn date_from(month: u32, day: u32, code: u32, seconds: u32, mode: u32) -> RuleDa
         signed(day),
         signed(code),
         size(seconds),
-        size(mode),
+        mode_of(mode),
     )
 }
 
