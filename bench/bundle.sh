@@ -76,6 +76,19 @@ measure() {
     }'
 }
 
+# a large input that is made from a number, written as a bundle, read back and answered
+measure_load() {
+    local said count
+    said=$("$program" load 20000)
+    echo "load: $said"
+    [ "$said" = 'zones 20000 lines 20000 moments 15000 refusals 5000 last 1521862200' ] || failed=1
+    command -v valgrind >/dev/null || return
+    count=$(valgrind --tool=callgrind --callgrind-out-file=/dev/null "$program" load 20000 2>&1 >/dev/null |
+        awk '/Collected/ { print $NF }')
+    [ "$count" -le 131000000 ] && echo "load: $count instructions (wanted: at most 131000000)" ||
+        echo "load: $count instructions (wanted: at most 131000000, MISSED)"
+}
+
 if command -v valgrind >/dev/null; then
     start=$(instructions "$top/crates/saywhen/data/plus2.res")
     echo "start: $start instructions"
@@ -98,4 +111,5 @@ if command -v python3 >/dev/null; then
 else
     echo "skipped: 20,000 zones and hostile bundles, as python3 is missing"
 fi
+measure_load
 exit $failed
