@@ -5,14 +5,17 @@ use Rattle.resb_tree.specs.declared.resource.Resource.TheOpen.{Resource-F}
 use Rattle.resb_tree.specs.Header.{tree_of}
 use Rattle.resb.specs.Writing.{written, has_bad_key, is_too_large}
 
+-- each number is below a bound
 abbrev pub all_below : ℕ → List ℕ → Bool
 all_below n [] = true
 all_below n (x ∷ xs) = nat_lt x n && all_below n xs
 
+-- each of these holds
 abbrev pub all_true : List Bool → Bool
 all_true [] = true
 all_true (b ∷ bs) = b && all_true bs
 
+-- the parts of a tree have the sizes of their types, by what holds of its children
 abbrev pub layer_typed : Resource-F Bool → Bool
 layer_typed (Resource-F.Text units) = all_below 65536 units
 layer_typed (Resource-F.Bytes bytes) = all_below 256 bytes

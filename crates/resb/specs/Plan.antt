@@ -26,6 +26,7 @@ abbrev pub added : List (List ℕ) → List ℕ → Option (List (List ℕ))
 added keys key =
     if stands_in key keys then Some keys else (if nat_lt 65535 (pool_end keys) then None else Some (keys ++ key ∷ []))
 
+-- the pool with more keys, in their order
 unfoldable pub pooled : List (List ℕ) → List (List ℕ) → Option (List (List ℕ))
 pooled keys [] = Some keys
 pooled keys (k ∷ ks) = added keys k >>= λ more. pooled more ks
@@ -38,6 +39,7 @@ Fills view (Err TooLarge) found = found ≡ None
 Fills view (Err NoTree) found = ⊥
 Fills view (Err BadKey) found = ⊥
 
+-- the byte where the pool has a key
 abbrev pub places_in : KeyPool → List ℕ → ℕ
 places_in pool = place_of (bare pool.keys.items)
 
@@ -45,9 +47,11 @@ places_in pool = place_of (bare pool.keys.items)
 abbrev pub no_places : List ℕ → ℕ
 no_places key = 0
 
+-- an array of these items
 abbrev pub array_of : List Resource → Resource
 array_of items = r.Array items
 
+-- a table of these entries
 abbrev pub table_of : List (List ℕ × Resource) → Resource
 table_of entries = r.Table entries
 

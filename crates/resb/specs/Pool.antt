@@ -12,8 +12,10 @@ bare keys = map (λ k. k.now) keys
 abbrev pub pool_end : List (List ℕ) → ℕ
 pool_end keys = 32 + length (pool_bytes keys)
 
+-- the byte where a key begins, or would begin behind the others
 abbrev pub place_of : List (List ℕ) → List ℕ → ℕ
 place_of keys = key_place keys 32
 
+-- the byte where a key of the pool begins
 abbrev pub place_told : List (List ℕ) → List ℕ → Option ℕ
 place_told keys key = if stands_in key keys then Some (place_of keys key) else None

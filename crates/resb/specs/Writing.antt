@@ -10,6 +10,7 @@ use Rattle.resb_tree.specs.declared.resource.Resource.TheOpen.{Resource-F}
 
 -- ---- words of bytes and of units, low ones first; zeros fill the last word
 
+-- four bytes to a word
 abbrev pub pack_bytes : List ℕ → List ℕ
 pack_bytes [] = []
 pack_bytes (a ∷ []) = a ∷ []
@@ -17,6 +18,7 @@ pack_bytes (a ∷ b ∷ []) = (a + 256 * b) ∷ []
 pack_bytes (a ∷ b ∷ c ∷ []) = (a + 256 * b + 65536 * c) ∷ []
 pack_bytes (a ∷ b ∷ c ∷ d ∷ bytes) = (a + 256 * b + 65536 * c + 16777216 * d) ∷ pack_bytes bytes
 
+-- two units to a word
 abbrev pub pack_units : List ℕ → List ℕ
 pack_units [] = []
 pack_units (a ∷ []) = a ∷ []
@@ -24,14 +26,17 @@ pack_units (a ∷ b ∷ units) = (a + 65536 * b) ∷ pack_units units
 
 -- ---- keys
 
+-- the keys of entries and of their values, an entry's key first
 abbrev pub entry_keys : List (List ℕ × List (List ℕ)) → List (List ℕ)
 entry_keys [] = []
 entry_keys (e ∷ es) = e.0 ∷ e.1 ++ entry_keys es
 
+-- the keys of items, one after the other
 abbrev pub item_keys : List (List (List ℕ)) → List (List ℕ)
 item_keys [] = []
 item_keys (x ∷ xs) = x ++ item_keys xs
 
+-- the keys of a tree by those of its children
 abbrev pub layer_keys : Resource-F (List (List ℕ)) → List (List ℕ)
 layer_keys (Resource-F.Table entries) = entry_keys entries
 layer_keys (Resource-F.Array items) = item_keys items
@@ -62,6 +67,7 @@ key_place (k ∷ ks) at key = if bytes_eq k key then at else key_place ks (at + 
 
 -- ---- resources
 
+-- an item is its type in the high 4 bits of a word, and its value in the low 28
 abbrev pub item : ℕ → ℕ → ℕ
 item type value = 268435456 * type + value
 
@@ -69,14 +75,17 @@ item type value = 268435456 * type + value
 abbrev pub Laid : Type 0
 Laid = (List ℕ → ℕ) → ℕ → List ℕ × ℕ
 
+-- the count, the units, and a zero unit behind them; an empty text is item 0
 abbrev pub text_laid : List ℕ → Laid
 text_laid [] places at = ([], item 0 0)
 text_laid (u ∷ units) places at = (length (u ∷ units) ∷ pack_units ((u ∷ units) ++ 0 ∷ []), item 0 at)
 
+-- the count and the bytes; no bytes are an item with the value 0
 abbrev pub bytes_laid : List ℕ → Laid
 bytes_laid [] places at = ([], item 1 0)
 bytes_laid (b ∷ bytes) places at = (length (b ∷ bytes) ∷ pack_bytes (b ∷ bytes), item 1 at)
 
+-- the count and the numbers; no numbers are an item with the value 0
 abbrev pub integers_laid : List ℕ → Laid
 integers_laid [] places at = ([], item 14 0)
 integers_laid (v ∷ values) places at = (length (v ∷ values) ∷ v ∷ values, item 14 at)
@@ -89,12 +98,14 @@ lay_all (x ∷ xs) places at =
     let others = lay_all xs places (at + length first.0) in
     (first.0 ++ others.0, first.1 ∷ others.1)
 
+-- the items' words, the count, and the items; an empty array is an item with the value 0
 abbrev pub array_laid : List Laid → Laid
 array_laid [] places at = ([], item 8 0)
 array_laid (x ∷ xs) places at =
     let inner = lay_all (x ∷ xs) places at in
     (inner.0 ++ length inner.1 ∷ inner.1, item 8 (at + length inner.0))
 
+-- the values' words, the count with the keys' places, and the values' items; an empty table is an item with the value 0
 abbrev pub table_laid : List (List ℕ × Laid) → Laid
 table_laid [] places at = ([], item 2 0)
 table_laid (e ∷ es) places at =
@@ -103,6 +114,7 @@ table_laid (e ∷ es) places at =
       item 2 (at + length inner.0),
     )
 
+-- how a tree is laid by how its children are
 abbrev pub layer_laid : Resource-F Laid → Laid
 layer_laid (Resource-F.Text units) = text_laid units
 layer_laid (Resource-F.Bytes bytes) = bytes_laid bytes
@@ -117,10 +129,12 @@ laid = fold-Resource Laid layer_laid
 
 -- ---- the file
 
+-- the greatest of numbers, 0 without one
 abbrev pub most_of : List ℕ → ℕ
 most_of [] = 0
 most_of (n ∷ ns) = max n (most_of ns)
 
+-- the greatest number of entries of a table, by what it is in the children
 abbrev pub layer_most : Resource-F ℕ → ℕ
 layer_most (Resource-F.Table entries) = max (length entries) (most_of (map (λ (e : List ℕ × ℕ). e.1) entries))
 layer_most (Resource-F.Array items) = most_of items
@@ -130,6 +144,7 @@ layer_most _ = 0
 unfoldable pub most_entries : Resource → ℕ
 most_entries = fold-Resource ℕ layer_most
 
+-- 24 bytes: format 2 of a bundle, its marks, low bytes first
 abbrev pub header : List ℕ
 header = 0x27DA0018 ∷ 0x14 ∷ 0x20000 ∷ 0x42736552 ∷ 2 ∷ 0 ∷ []
 
@@ -143,23 +158,28 @@ written_body t =
     let end = keys_end + length root.0 in
     (root.1 ∷ 7 ∷ keys_end ∷ end ∷ end ∷ most_entries t ∷ 0 ∷ keys_end ∷ []) ++ keys ++ root.0
 
+-- the words of the file: the header and the body
 unfoldable pub written : Resource → List ℕ
 written t = header ++ written_body t
 
 -- ---- what is not written
 
+-- each byte is 1 to 127
 abbrev pub is_key : List ℕ → Bool
 is_key [] = true
 is_key (b ∷ bytes) = nat_lt 0 b && nat_lt b 128 && is_key bytes
 
+-- one of these holds
 abbrev pub any_bad : List Bool → Bool
 any_bad [] = false
 any_bad (b ∷ bs) = b || any_bad bs
 
+-- each of these is a key
 abbrev pub all_keys : List (List ℕ) → Bool
 all_keys [] = true
 all_keys (k ∷ ks) = is_key k && all_keys ks
 
+-- a tree has a bad key, by its own keys and by what holds of its children
 abbrev pub layer_bad : Resource-F Bool → Bool
 layer_bad (Resource-F.Table entries) =
     not (all_keys (map (λ (e : List ℕ × Bool). e.0) entries) && distinct (map (λ (e : List ℕ × Bool). e.0) entries))
@@ -171,14 +191,17 @@ layer_bad _ = false
 unfoldable pub has_bad_key : Resource → Bool
 has_bad_key = fold-Resource Bool layer_bad
 
+-- a tree's levels by those of its children
 abbrev pub layer_depth : Resource-F ℕ → ℕ
 layer_depth (Resource-F.Table entries) = 1 + most_of (map (λ (e : List ℕ × ℕ). e.1) entries)
 layer_depth (Resource-F.Array items) = 1 + most_of items
 layer_depth _ = 1
 
+-- how many levels a tree has
 unfoldable pub depth : Resource → ℕ
 depth = fold-Resource ℕ layer_depth
 
+-- some integer has more than 28 bits, by what holds of the children
 abbrev pub layer_wide : Resource-F Bool → Bool
 layer_wide (Resource-F.Integer v) = nat_lt 268435455 v
 layer_wide (Resource-F.Table entries) = any_bad (map (λ (e : List ℕ × Bool). e.1) entries)
@@ -189,6 +212,7 @@ layer_wide _ = false
 unfoldable pub has_wide_integer : Resource → Bool
 has_wide_integer = fold-Resource Bool layer_wide
 
+-- the byte where each key of a pool begins, where the pool begins at `at`
 abbrev pub places_of : List (List ℕ) → ℕ → List ℕ
 places_of [] at = []
 places_of (k ∷ ks) at = at ∷ places_of ks (at + length k + 1)

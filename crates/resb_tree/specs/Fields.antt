@@ -6,6 +6,7 @@ use Rattle.resb_tree.specs.declared.resource.Resource.{Resource, out-Resource}
 use Rattle.resb_tree.specs.declared.resource.Resource.TheOpen.{Resource-F}
 use Rattle.resb_tree.specs.declared.resource.Resource.TheVariants as r
 
+-- the units of a text, by its outermost layer
 abbrev pub text_layer : Resource-F Resource → Option (List ℕ)
 text_layer (Resource-F.Text units) = Some units
 text_layer _ = None
@@ -14,13 +15,16 @@ text_layer _ = None
 abbrev pub text_in : Resource → Option (List ℕ)
 text_in t = text_layer (out-Resource t)
 
+-- the bytes of a list of bytes, by its outermost layer
 abbrev pub bytes_layer : Resource-F Resource → Option (List ℕ)
 bytes_layer (Resource-F.Bytes bytes) = Some bytes
 bytes_layer _ = None
 
+-- the bytes of a list of bytes
 abbrev pub bytes_in : Resource → Option (List ℕ)
 bytes_in t = bytes_layer (out-Resource t)
 
+-- the words of a list of integers, by its outermost layer
 abbrev pub integers_layer : Resource-F Resource → Option (List ℕ)
 integers_layer (Resource-F.Integers values) = Some values
 integers_layer _ = None
@@ -29,20 +33,25 @@ integers_layer _ = None
 abbrev pub integers_in : Resource → Option (List ℕ)
 integers_in t = integers_layer (out-Resource t)
 
+-- the items of an array, by its outermost layer
 abbrev pub items_layer : Resource-F Resource → Option (List Resource)
 items_layer (Resource-F.Array items) = Some items
 items_layer _ = None
 
+-- the items of an array
 abbrev pub items_in : Resource → Option (List Resource)
 items_in t = items_layer (out-Resource t)
 
+-- the entries of a table, by its outermost layer
 abbrev pub entries_layer : Resource-F Resource → Option (List (List ℕ × Resource))
 entries_layer (Resource-F.Table entries) = Some entries
 entries_layer _ = None
 
+-- the entries of a table, in its order
 abbrev pub entries_in : Resource → Option (List (List ℕ × Resource))
 entries_in t = entries_layer (out-Resource t)
 
+-- the low 28 bits of an integer, by its outermost layer
 abbrev pub index_layer : Resource-F Resource → Option ℕ
 index_layer (Resource-F.Integer v) = Some (v % 268435456)
 index_layer _ = None
@@ -55,6 +64,7 @@ index_in t = index_layer (out-Resource t)
 abbrev pub sign_extended : ℕ → ℤ
 sign_extended v = if nat_lt v 134217728 then pos v else pos v -ℤ pos 268435456
 
+-- the low 28 bits of an integer, with their sign
 abbrev pub signed_in : Resource → Option ℤ
 signed_in t = option_map sign_extended (index_in t)
 
@@ -75,6 +85,7 @@ pub record StandsFirst (key : List ℕ) (at : ℕ) (entries : List (List ℕ × 
   pub first : first_with key entries ≡ Some entry.1
   pub others : remove entries at ≡ without_first key entries
 
+-- a table's value for a key, by its outermost layer
 abbrev pub field_layer : List ℕ → Resource-F Resource → Option Resource
 field_layer key (Resource-F.Table entries) = first_with key entries
 field_layer key _ = None
@@ -83,6 +94,7 @@ field_layer key _ = None
 abbrev pub field_in : List ℕ → Resource → Option Resource
 field_in key t = field_layer key (out-Resource t)
 
+-- a tree without the first entry with the key, by its outermost layer
 abbrev pub without_layer : List ℕ → Resource → Resource-F Resource → Resource
 without_layer key t (Resource-F.Table entries) = r.Table (without_first key entries)
 without_layer key t _ = t

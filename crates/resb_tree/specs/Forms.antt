@@ -29,6 +29,7 @@ abbrev pub no_items : ArrayForm → ℕ → Bool
 no_items array.Long v = v == 0
 no_items array.Short v = false
 
+-- how many items the array at a place has, where they lie where they may
 abbrev pub array_count : ArrayForm → Body → ℕ → Option ℕ
 array_count array.Long b v = counted b v 1
 array_count array.Short b v = area_counted b v 1
@@ -41,6 +42,7 @@ entry_in table.Narrow b v count k = (unit_in b.words (2 * v + 1 + k), slice_inde
 entry_in table.Wide b v count k = (slice_index b.words (v + 1 + k), slice_index b.words (v + 1 + count + k))
 entry_in table.Brief b v count k = (area_unit b (v + 1 + k), text_item b (v + 1 + count + k))
 
+-- a table whose places are no units of the area has no words where its place is 0
 abbrev pub no_entries : TableForm → ℕ → Bool
 no_entries table.Narrow v = v == 0
 no_entries table.Wide v = v == 0
@@ -52,6 +54,7 @@ EntriesLie table.Narrow b v count = v + (count + 2) / 2 + count ≤ b.end
 EntriesLie table.Wide b v count = v + 1 + 2 * count ≤ b.end
 EntriesLie table.Brief b v count = v + 1 + 2 * count ≤ area_len b
 
+-- how many entries the table at a place has, where they lie where they may
 abbrev pub table_count : TableForm → Body → ℕ → Option ℕ
 table_count table.Narrow b v =
     let count = unit_in b.words (2 * v) in

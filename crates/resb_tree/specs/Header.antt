@@ -22,6 +22,7 @@ is_header words =
 abbrev pub index : List ℕ → ℕ → ℕ
 index words i = slice_index words (1 + i)
 
+-- seven numbers at least; the ends in order, within the words; and no keys of another bundle
 abbrev pub is_index : List ℕ → Bool
 is_index words =
     let count = index words 0 % 256 in

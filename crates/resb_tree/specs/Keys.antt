@@ -2,6 +2,7 @@
 use Rattle.std.specs.Prelude.{if◌then◌else◌, ℕ, Bool, true, false, not, ◌&&◌, List, [], ◌∷◌, map}
 use Rattle.std.specs.Str.{bytes_eq}
 
+-- a key is one of these
 abbrev pub stands_in : List ℕ → List (List ℕ) → Bool
 stands_in key [] = false
 stands_in key (k ∷ ks) = if bytes_eq key k then true else stands_in key ks

@@ -31,9 +31,11 @@ Gives view (Err errors.BadKey) found = ⊥
 
 -- ---- numbers, bytes and texts
 
+-- an integer weighs 1
 unfoldable pub integer_within : ℕ → ℕ → Option (Resource × ℕ)
 integer_within v limit = spent limit 1 >>= λ left. Some (r.Integer v, left)
 
+-- so many words behind their count weigh one each, and 1 besides; none where the place is 0
 unfoldable pub integers_within : Body → ℕ → ℕ → Option (Resource × ℕ)
 integers_within b v limit =
     if v == 0 then (spent limit 1 >>= λ left. Some (r.Integers [], left)) else do
@@ -41,6 +43,7 @@ integers_within b v limit =
       left ← spent limit (count + 1)
       Some (r.Integers (run (slice_index b.words) (v + 1) count), left)
 
+-- so many units behind their count weigh one each, and 1 besides; none where the place is 0
 unfoldable pub text_within : Body → ℕ → ℕ → Option (Resource × ℕ)
 text_within b v limit =
     if v == 0 then (spent limit 1 >>= λ left. Some (r.Text [], left)) else do
@@ -48,6 +51,7 @@ text_within b v limit =
       left ← spent limit (count + 1)
       Some (r.Text (run (unit_in b.words) (2 * (v + 1)) count), left)
 
+-- so many bytes behind their count weigh one each, and 1 besides; none where the place is 0
 unfoldable pub bytes_within : Body → ℕ → ℕ → Option (Resource × ℕ)
 bytes_within b v limit =
     if v == 0 then (spent limit 1 >>= λ left. Some (r.Bytes [], left)) else do
@@ -79,6 +83,7 @@ short_span b v =
     if nat_lt f 0xDC00 || nat_lt 0xDFFF f then (zero_from (area_unit b) v (area_len b - v) >>= λ stop. Some (v, stop - v)) else told_span b v f
     ) else None
 
+-- a text of the area weighs one for each unit, and 1 besides
 unfoldable pub short_text_within : Body → ℕ → ℕ → Option (Resource × ℕ)
 short_text_within b v limit = do
   span ← short_span b v
@@ -87,6 +92,7 @@ short_text_within b v limit = do
 
 -- ---- arrays
 
+-- what each item denotes, each within what those before it left
 abbrev pub all_within : (ℕ → ℕ → Option (Resource × ℕ)) → List ℕ → ℕ → Option (List Resource × ℕ)
 all_within one [] limit = Some ([], limit)
 all_within one (item ∷ items) limit = do
@@ -94,6 +100,7 @@ all_within one (item ∷ items) limit = do
   others ← all_within one items first.1
   Some (first.0 ∷ others.0, others.1)
 
+-- an array weighs 1, and what its items weigh
 unfoldable pub array_within : ArrayForm → (ℕ → ℕ → Option (Resource × ℕ)) → Body → ℕ → ℕ → Option (Resource × ℕ)
 array_within form one b v limit = do
   left ← spent limit 1
@@ -110,12 +117,14 @@ key_stop byte place zero = None
 key_stop byte place (suc more) =
     if byte place == 0 then Some place else (if nat_lt (byte place) 128 then key_stop byte (place + 1) more else None)
 
+-- a key weighs one for each byte; it ends at a zero byte before the keys' end
 unfoldable pub key_within : Body → ℕ → ℕ → Option (List ℕ × ℕ)
 key_within b place limit = do
   stop ← key_stop (byte_in b.words) place (4 * b.keys_end - place)
   left ← spent limit (stop - place)
   Some (run (byte_in b.words) place (stop - place), left)
 
+-- keys and values in turn, each within what those before it left
 abbrev pub entries_within : (ℕ → ℕ → Option (List ℕ × ℕ)) → (ℕ → ℕ → Option (Resource × ℕ)) → List (ℕ × ℕ) → ℕ → Option (List (List ℕ × Resource) × ℕ)
 entries_within key one [] limit = Some ([], limit)
 entries_within key one (entry ∷ entries) limit = do
@@ -124,6 +133,7 @@ entries_within key one (entry ∷ entries) limit = do
   others ← entries_within key one entries value.1
   Some ((name.0, value.0) ∷ others.0, others.1)
 
+-- a table weighs 1, and what its keys and values weigh; no two of its keys are equal
 unfoldable pub table_within : TableForm → (ℕ → ℕ → Option (Resource × ℕ)) → Body → ℕ → ℕ → Option (Resource × ℕ)
 table_within form one b v limit = do
   left ← spent limit 1
@@ -134,6 +144,7 @@ table_within form one b v limit = do
 
 -- ---- items
 
+-- what an item of a type and a value denotes, and what it leaves of the limit
 unfoldable pub typed_within : (ℕ → ℕ → Option (Resource × ℕ)) → Body → ℕ → ℕ → ℕ → Option (Resource × ℕ)
 typed_within one b t v limit =
     if t == 0 then text_within b v limit else (
@@ -147,9 +158,11 @@ typed_within one b t v limit =
     if t == 9 then array_within array.Short one b v limit else (
     if t == 14 then integers_within b v limit else None)))))))))
 
+-- the same of an item, with so many levels left, its own among them
 unfoldable pub within : Body → ℕ → ℕ → ℕ → Option (Resource × ℕ)
 within b zero item limit = None
 within b (suc levels) item limit = typed_within (within b levels) b (item / 268435456) (item % 268435456) limit
 
+-- the tree of the root item, of at most 8 levels
 unfoldable pub root_within : Body → ℕ → Option Resource
 root_within b limit = within b 8 (slice_index b.words 0) limit >>= λ x. Some x.0

@@ -6,11 +6,13 @@ use Rattle.resb_tree.specs.Words.{byte_in, unit_in, run}
 use Rattle.resb_tree.specs.declared.resource.Resource.{Resource}
 use Rattle.resb_tree.specs.declared.resource.Resource.TheVariants as r
 
+-- what comes of a value, where there is one
 infixl 10 ◌>>=◌
 abbrev pub ◌>>=◌ : {A B : Type 0} → Option A → (A → Option B) → Option B
 (Some x) >>= f = f x
 None >>= f = None
 
+-- a value, where a condition holds
 abbrev pub when : Bool → {A : Type 0} → A → Option A
 when b x = cond b (Some x) None
 
@@ -21,6 +23,7 @@ pub record Body : Type 0 where
   pub area_end : ℕ
   pub end : ℕ
 
+-- a body of these words and ends
 abbrev pub body : List ℕ → ℕ → ℕ → ℕ → Body
 body words keys_end area_end end = record { words = words; keys_end = keys_end; area_end = area_end; end = end }
 
@@ -30,6 +33,7 @@ body words keys_end area_end end = record { words = words; keys_end = keys_end; 
 abbrev pub area_len : Body → ℕ
 area_len b = 2 * b.area_end - 2 * b.keys_end
 
+-- the unit of a number there
 abbrev pub area_unit : Body → ℕ → ℕ
 area_unit b k = unit_in b.words (2 * b.keys_end + k)
 
@@ -53,16 +57,19 @@ area_counted b v per =
 
 -- ---- numbers, bytes and texts
 
+-- so many words behind their count; none where the place is 0
 unfoldable pub integers_at : Body → ℕ → Option Resource
 integers_at b v =
     if v == 0 then Some (r.Integers [])
     else (counted b v 1 >>= λ count. Some (r.Integers (run (slice_index b.words) (v + 1) count)))
 
+-- so many bytes behind their count, four to a word; none where the place is 0
 unfoldable pub bytes_at : Body → ℕ → Option Resource
 bytes_at b v =
     if v == 0 then Some (r.Bytes [])
     else (counted b v 4 >>= λ count. Some (r.Bytes (run (byte_in b.words) (4 * (v + 1)) count)))
 
+-- so many units behind their count, two to a word; none where the place is 0
 unfoldable pub text_at : Body → ℕ → Option Resource
 text_at b v =
     if v == 0 then Some (r.Text [])
@@ -100,11 +107,13 @@ all_of one (item ∷ items) = do
   others ← all_of one items
   Some (first ∷ others)
 
+-- the items behind their count, a word each; none where the place is 0
 unfoldable pub array_at : (ℕ → Option Resource) → Body → ℕ → Option Resource
 array_at one b v =
     if v == 0 then Some (r.Array [])
     else (counted b v 1 >>= λ count. all_of one (run (slice_index b.words) (v + 1) count) >>= λ items. Some (r.Array items))
 
+-- the items behind their count in the area, each a text
 unfoldable pub short_array_at : (ℕ → Option Resource) → Body → ℕ → Option Resource
 short_array_at one b v =
     area_counted b v 1 >>= λ count. all_of one (run (text_item b) (v + 1) count) >>= λ items. Some (r.Array items)
@@ -141,6 +150,7 @@ abbrev pub places16 : Body → ℕ → ℕ → List (ℕ × ℕ)
 places16 b v count =
     run (λ k. (unit_in b.words (2 * v + 1 + k), slice_index b.words (v + (count + 2) / 2 + k))) 0 count
 
+-- such a table at a place; none where the place is 0
 unfoldable pub table16_at : (ℕ → Option Resource) → Body → ℕ → Option Resource
 table16_at one b v =
     if v == 0 then Some (r.Table []) else (
@@ -151,6 +161,7 @@ table16_at one b v =
 abbrev pub places32 : Body → ℕ → ℕ → List (ℕ × ℕ)
 places32 b v count = run (λ k. (slice_index b.words (v + 1 + k), slice_index b.words (v + 1 + count + k))) 0 count
 
+-- such a table at a place; none where the place is 0
 unfoldable pub table32_at : (ℕ → Option Resource) → Body → ℕ → Option Resource
 table32_at one b v =
     if v == 0 then Some (r.Table []) else (
@@ -161,11 +172,13 @@ table32_at one b v =
 abbrev pub short_places : Body → ℕ → ℕ → List (ℕ × ℕ)
 short_places b v count = run (λ k. (area_unit b (v + 1 + k), text_item b (v + 1 + count + k))) 0 count
 
+-- such a table at a unit
 unfoldable pub short_table_at : (ℕ → Option Resource) → Body → ℕ → Option Resource
 short_table_at one b v = area_counted b v 2 >>= λ count. table_of one b (short_places b v count)
 
 -- ---- an item: its type in the high 4 bits, and a value in the low 28
 
+-- what an item of a type and a value denotes; types 0 to 2, 4 to 9 and 14 are read
 unfoldable pub by_type : (ℕ → Option Resource) → Body → ℕ → ℕ → Option Resource
 by_type one b t v =
     if t == 0 then text_at b v else (

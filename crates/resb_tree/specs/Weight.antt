@@ -13,6 +13,7 @@ abbrev pub entries_sum : List (List ℕ × ℕ) → ℕ
 entries_sum [] = 0
 entries_sum (e ∷ es) = length e.0 + e.1 + entries_sum es
 
+-- a tree's weight by the weights of its children
 abbrev pub layer_weight : Resource-F ℕ → ℕ
 layer_weight (Resource-F.Text units) = 1 + length units
 layer_weight (Resource-F.Bytes bytes) = 1 + length bytes
@@ -25,10 +26,12 @@ layer_weight (Resource-F.Integers values) = 1 + length values
 unfoldable pub weight : Resource → ℕ
 weight = fold-Resource ℕ layer_weight
 
+-- the weights of trees, as a sum
 abbrev pub weights : List Resource → ℕ
 weights [] = 0
 weights (x ∷ xs) = weight x + weights xs
 
+-- the keys' bytes and the values' weights, as a sum
 abbrev pub entry_weights : List (List ℕ × Resource) → ℕ
 entry_weights [] = 0
 entry_weights (e ∷ es) = length e.0 + weight e.1 + entry_weights es

@@ -1,12 +1,14 @@
 -- Words of 32 bits, and the bytes and 16-bit units in them, low ones first.
 use Rattle.std.specs.Prelude.{ℕ, zero, suc, ◌+◌, ◌/◌, ◌%◌, List, [], ◌∷◌, slice_index, if◌then◌else◌, ◌==◌}
 
+-- the byte at a place, counted from the first word's low byte
 abbrev pub byte_in : List ℕ → ℕ → ℕ
 byte_in words place =
     let word = slice_index words (place / 4) in
     let k = place % 4 in
     if k == 0 then word % 256 else (if k == 1 then word / 256 % 256 else (if k == 2 then word / 65536 % 256 else word / 16777216))
 
+-- the unit at a place, counted from the first word's low half
 abbrev pub unit_in : List ℕ → ℕ → ℕ
 unit_in words place = let word = slice_index words (place / 2) in if place % 2 == 0 then word % 65536 else word / 65536
 
