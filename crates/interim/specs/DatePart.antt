@@ -32,9 +32,11 @@ dated date = record { date = Some date; clock = Nothing }
 abbrev pub timed : ClockFront → DatePart
 timed clock = record { date = None; clock = clock }
 
+-- a day that is written out
 abbrev pub absolute : ℕ → ℕ → ℕ → DateSpec
 absolute year month day = Absolute (date_of year month day)
 
+-- a day of a month of no year
 abbrev pub day_and_month : ℕ → ℕ → Direction → DateSpec
 day_and_month day month direction = FromName (by_name.DayMonth day month) direction
 
@@ -99,10 +101,12 @@ abbrev pub day_of_pair : Dialect → ℕ → ℕ → ℕ
 day_of_pair Uk first second = first
 day_of_pair Us first second = second
 
+-- the month of two numbers with a slash: the second in British, the first in American order
 abbrev pub month_of_pair : Dialect → ℕ → ℕ → ℕ
 month_of_pair Uk first second = second
 month_of_pair Us first second = first
 
+-- behind day and month: a year behind a second slash, or none
 abbrev pub slashed_end : ℕ → ℕ → Direction → Bool → Step DatePart
 slashed_end month day direction true = (do
   year ← number
@@ -126,17 +130,21 @@ year_missing day month direction = do
 unfoldable pub day_month : ℕ → ℕ → Direction → Step DatePart
 day_month day month direction = following_number >>= λ year. given year (λ y. pure (dated (absolute y month day))) (year_missing day month direction)
 
+-- so many times a unit, before the base
 abbrev pub times_back : Interval → ℕ → DatePart
 times_back unit n = dated (Relative (scaled unit (neg_ℤ (pos n))))
 
+-- so many times a unit, after the base, with a clock time's front
 abbrev pub times_on : Interval → ℕ → ClockFront → DatePart
 times_on unit n clock = record { date = Some (Relative (scaled unit (pos n))); clock = clock }
 
+-- a unit with no clock time in sight passes over a token
 abbrev pub unit_alone : Interval → ℕ → Step DatePart
 unit_alone unit n = do
   _ ← pass_over
   pure (times_on unit n Nothing)
 
+-- behind a unit: `ago`, the hour of a clock time, or what is passed over
 abbrev pub unit_then_kind : Interval → ℕ → Token → Kind → Step DatePart
 unit_then_kind unit n t (Word word) = (do
   _ ← next
@@ -146,6 +154,7 @@ unit_then_kind unit n t (Number hour) = (do
   pure (times_on unit n (OpenHour hour)))
 unit_then_kind unit n t other = unit_alone unit n
 
+-- the same with the next token, if there is one
 abbrev pub unit_then : Interval → ℕ → Option Token → Step DatePart
 unit_then unit n None = unit_alone unit n
 unit_then unit n (Some t) = unit_then_kind unit n t t.kind
@@ -174,6 +183,7 @@ undirected Bare part = part
 undirected Minus part = part
 undirected (Directed direction) part = ended expected.DayOrMonth
 
+-- behind a number: a word, a colon or a dot of a clock time, a dash or a slash of a date
 abbrev pub number_then_kind : Dialect → Opening → ℕ → Token → Kind → Step DatePart
 number_then_kind dialect opening n t (Word word) = number_then_word opening n t word
 number_then_kind dialect opening n t Colon = undirected opening (pure (timed (FormalHour n)))
@@ -189,11 +199,13 @@ number_head dialect opening n (Some t) = number_then_kind dialect opening n t t.
 
 -- ---- the first token, and the head
 
+-- a word behind a sign, behind nothing, or behind a direction
 abbrev pub signed_word_head : Opening → Token → List ℕ → Step DatePart
 signed_word_head Minus t word = refuse expected.Number t
 signed_word_head Bare t word = word_head Here t word
 signed_word_head (Directed direction) t word = word_head direction t word
 
+-- what a date begins with: a number or a word
 abbrev pub head_kind : Dialect → Opening → Token → Kind → Step DatePart
 head_kind dialect opening t (Number n) = next >>= number_head dialect opening n
 head_kind dialect opening t (Word word) = signed_word_head opening t word
@@ -211,6 +223,7 @@ first_word dialect t word =
     given (direction_of word) (λ direction. next >>= head dialect (Directed direction))
     (head dialect Bare (Some t)))
 
+-- what a phrase begins with: a minus, a direction, or a date
 abbrev pub first_kind : Dialect → Token → Kind → Step DatePart
 first_kind dialect t Dash = next >>= head dialect Minus
 first_kind dialect t (Word word) = first_word dialect t word
@@ -221,5 +234,6 @@ unfoldable pub first : Dialect → Option Token → Step DatePart
 first dialect None = head dialect Bare None
 first dialect (Some t) = first_kind dialect t t.kind
 
+-- the first token and those that belong to it
 unfoldable pub date_part : Dialect → Step DatePart
 date_part dialect = next >>= first dialect

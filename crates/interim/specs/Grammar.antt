@@ -45,6 +45,7 @@ interval_in (Some (Absolute date)) None = Err UnexpectedAbsoluteDate
 interval_in (Some (FromName name direction)) None = Err UnexpectedDate
 interval_in (Some (Relative interval)) None = Ok interval
 
+-- the interval that parts name, or the fault of the parts or of what they are
 abbrev pub interval_of : Result DateTimeSpec DateError → Result Interval DateError
 interval_of (Err e) = Err e
 interval_of (Ok parts) = interval_in parts.date parts.time

@@ -16,5 +16,6 @@ scaled (Seconds n) k = Seconds (n *ℤ k)
 scaled (Days n) k = Days (n *ℤ k)
 scaled (Months n) k = Months (n *ℤ k)
 
+-- so many times a unit fit 32 bits with a sign
 abbrev pub ProductFits : Interval → ℤ → Type 0
 ProductFits i k = FitsSigned w32 (count_of i *ℤ k)

@@ -27,10 +27,12 @@ abbrev pub HasFewDigits : Kind → Type 0
 HasFewDigits (Number n) = n < 10000
 HasFewDigits other = Unit {0}
 
+-- no number of the tokens has over four digits
 abbrev pub AllHaveFewDigits : List Token → Type 0
 AllHaveFewDigits [] = Unit {0}
 AllHaveFewDigits (t ∷ ts) = HasFewDigits t.kind × AllHaveFewDigits ts
 
+-- tokens stand in order inside the phrase, and their numbers have at most four digits
 pub record TokensAreSound : Type 0 where
   pub in_order : (phrase : List ℕ) → AreInOrder 0 (length phrase) (phrase_tokens phrase)
   pub few_digits : (phrase : List ℕ) → AllHaveFewDigits (phrase_tokens phrase)
@@ -45,17 +47,20 @@ pub record IsSmallTime (time : TimeSpec) : Type 0 where
   pub microsec : time.microsec < 1000000
   pub offset : MatchOption time.offset (Unit {0}) (λ o. unsigned_abs o ≤ 36596340)
 
+-- a date's numbers have at most four digits
 pub record IsSmallDate (date : AbsDate) : Type 0 where
   pub first_year : pos 0 ≤ℤ date.year
   pub last_year : date.year ≤ℤ pos 9999
   pub month : date.month < 10000
   pub day : date.day < 10000
 
+-- a weekday of seven, a month of twelve, or numbers of at most four digits
 abbrev pub IsSmallName : ByName → Type 0
 IsSmallName (by_name.WeekDay n) = n ≤ 6
 IsSmallName (by_name.MonthName n) = (1 ≤ n) × (n ≤ 12)
 IsSmallName (by_name.DayMonth day month) = (day < 10000) × (month < 10000)
 
+-- the numbers of a date, an interval or a name are small
 abbrev pub IsSmall : DateSpec → Type 0
 IsSmall (Absolute date) = IsSmallDate date
 IsSmall (Relative interval) = unsigned_abs (count_of interval) ≤ 35996400
@@ -73,9 +78,11 @@ IsFaultIn end (error.EndOfText e) = Unit {0}
 IsFaultIn end error.MissingDate = Unit {0}
 IsFaultIn end other = ⊥
 
+-- what is read of a phrase has small numbers, or is refused at a place in the phrase
 abbrev pub PartsAreSound : Type 0
 PartsAreSound = (dialect : Dialect) (phrase : List ℕ) → MatchResult (parts_of dialect (phrase_tokens phrase)) AreSmallParts (IsFaultIn (length phrase))
 
+-- and so of a clock time alone
 abbrev pub TimesAreSound : Type 0
 TimesAreSound = (phrase : List ℕ) → MatchResult (time_of (phrase_tokens phrase)) (λ time. MatchOption time (Unit {0}) IsSmallTime) (IsFaultIn (length phrase))
 
@@ -87,5 +94,6 @@ pub record IsReadAsNamed (dialect : Dialect) (phrase : List ℕ) (date : AbsDate
   pub no_offset : time.offset ≡ None
   pub no_fraction : time.microsec ≡ 0
 
+-- a phrase of the plain form is read as the date and the clock time that it names
 abbrev pub PlainFormsAreRead : Type 0
 PlainFormsAreRead = (dialect : Dialect) (phrase : List ℕ) (date : AbsDate) (time : TimeSpec) → Names dialect phrase date time → IsReadAsNamed dialect phrase date time

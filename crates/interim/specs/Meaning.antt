@@ -218,6 +218,7 @@ Means shows places days seconds base dialect None clock r = MeansFromWall shows 
 abbrev pub ShowsIf : Type 0 → (ℤ → ℤ) → ℤ → ℕ → ℤ → Type 0
 ShowsIf sound off s f w = sound → Shows off s w
 
+-- where such a zone places a wall time
 abbrev pub PlacesIf : Type 0 → (ℤ → ℤ) → ℤ → ℕ → ℤ → Type 0
 PlacesIf sound off w f s = sound → IsPlaced off w s
 

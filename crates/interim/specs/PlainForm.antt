@@ -10,6 +10,7 @@ use Rattle.interim.specs.Parts.{date_of, full_year, clock, shifted}
 use Rattle.interim.specs.Tokens.{Kind, Number, Word, Dash, Slash, Colon, Dot, Comma, Token, phrase_tokens}
 use Rattle.interim.specs.Words.{month_of, half_of}
 
+-- the kinds of tokens
 abbrev pub kinds : List Token → List Kind
 kinds = map (λ (t : Token). t.kind)
 
@@ -22,6 +23,7 @@ pub data PlainDate : Type 0 where
   DayFirst : ℕ → List ℕ → ℕ → PlainDate
   MonthFirst : List ℕ → ℕ → ℕ → PlainDate
 
+-- the tokens of a date
 abbrev pub spelled_date : PlainDate → List Kind
 spelled_date (Dashed year month day) = Number year ∷ Dash ∷ Number month ∷ Dash ∷ Number day ∷ []
 spelled_date (Slashed first second year) = Number first ∷ Slash ∷ Number second ∷ Slash ∷ Number year ∷ []
@@ -38,12 +40,14 @@ date_named dialect (MonthFirst name day year) = option_map (λ month. date_of ye
 
 -- ---- the time
 
+-- a clock time in one of four shapes: with a colon, with seconds, with a dot, or the hour alone
 pub data PlainTime : Type 0 where
   Minutes : ℕ → ℕ → PlainTime
   Seconds : ℕ → ℕ → ℕ → PlainTime
   Dotted : ℕ → ℕ → PlainTime
   Lone : ℕ → PlainTime
 
+-- the tokens of a clock time
 abbrev pub spelled_time : PlainTime → List Kind
 spelled_time (Minutes hour minute) = Number hour ∷ Colon ∷ Number minute ∷ []
 spelled_time (Seconds hour minute second) = Number hour ∷ Colon ∷ Number minute ∷ Colon ∷ Number second ∷ []
@@ -70,15 +74,18 @@ time_named (Lone hour) (Some name) = option_map (λ h. clock h 0 0 0) (hour_name
 
 -- ---- the phrase
 
+-- a date, perhaps a T, a clock time, and perhaps am or pm
 pub record PlainPhrase : Type 0 where
   pub date : PlainDate
   pub has_t : Bool
   pub time : PlainTime
   pub half : Option (List ℕ)
 
+-- the token of a T, if there is one
 abbrev pub spelled_t : Bool → List Kind
 spelled_t has_t = if has_t then Word (codes "T") ∷ [] else []
 
+-- the tokens of a phrase of the plain form
 abbrev pub spelled : PlainPhrase → List Kind
 spelled p = spelled_date p.date ++ (spelled_t p.has_t ++ (spelled_time p.time ++ spelled_half p.half))
 

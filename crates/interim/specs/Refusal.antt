@@ -25,6 +25,7 @@ pub record Ends : Type 0 where
   pub first : ℤ
   pub last : ℤ
 
+-- a number lies between two ends, both among them
 abbrev pub is_within : Ends → ℤ → Bool
 is_within ends n = int_le ends.first n && int_le n ends.last
 

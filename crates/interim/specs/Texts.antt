@@ -6,6 +6,7 @@ use Rattle.interim.specs.declared.errors.Expected.TheVariants as e
 use Rattle.interim.specs.declared.errors.DateError.{DateError}
 use Rattle.interim.specs.declared.errors.DateError.TheVariants as d
 
+-- what was expected, in words
 abbrev pub expected_text : Expected → List ℕ
 expected_text e.Number = codes "number"
 expected_text e.Dash = codes "'-'"
@@ -24,9 +25,11 @@ expected_text e.ColonOrDot = codes ": or ."
 expected_text e.AmPm = codes "am/pm"
 expected_text e.AmPmColonDot = codes "am/pm, ':' or '.'"
 
+-- the bytes of a token: the first, and the one behind the last
 abbrev pub span_text : Span → List ℕ
 span_text s = decimal s.start ++ codes ".." ++ decimal s.end
 
+-- the text of each error
 abbrev pub error_text : DateError → List ℕ
 error_text (d.ExpectedToken e s) = codes "expected " ++ expected_text e ++ codes " as position " ++ span_text s
 error_text (d.EndOfText e) = codes "expected " ++ expected_text e ++ codes " at the end of the input"

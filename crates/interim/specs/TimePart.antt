@@ -17,6 +17,7 @@ fraction = do
   has_fraction ← follows is_dot
   if has_fraction then number else pure 0
 
+-- hours and minutes as seconds, west of Greenwich below zero
 abbrev pub offset_seconds : Bool → ℕ → ℕ → ℤ
 offset_seconds is_west hours minutes =
     let seconds = pos (60 * (minutes + 60 * hours)) in if is_west then neg_ℤ seconds else seconds
@@ -35,6 +36,7 @@ abbrev pub closing_word : TimeSpec → Token → List ℕ → Step TimeSpec
 closing_word time t word =
     if is_z word then pure (with_offset time (pos 0)) else given (half_of word) (λ half. pure (in_half half time)) (refuse expected.ZAmPm t)
 
+-- what closes a formal time, by its kind: an offset behind a sign, or a word
 abbrev pub closing_kind : TimeSpec → Token → Kind → Step TimeSpec
 closing_kind time t Plus = written_offset false >>= λ offset. pure (with_offset time offset)
 closing_kind time t Dash = written_offset true >>= λ offset. pure (with_offset time offset)
@@ -46,6 +48,7 @@ unfoldable pub closing : TimeSpec → Option Token → Step TimeSpec
 closing time None = pure time
 closing time (Some t) = closing_kind time t t.kind
 
+-- what stands behind the minute, by its kind
 abbrev pub after_minute_kind : ℕ → ℕ → Token → Kind → Step TimeSpec
 after_minute_kind hour minute t Colon = (do
   second ← number
@@ -70,6 +73,7 @@ formal hour = do
 
 -- ---- the informal time: hour.minute, perhaps am or pm
 
+-- am or pm behind the minutes of an informal time
 abbrev pub informal_kind : TimeSpec → Token → Kind → Step TimeSpec
 informal_kind time t (Word word) = given (half_of word) (λ half. pure (in_half half time)) (refuse expected.DotAmPm t)
 informal_kind time t other = refuse expected.DotAmPm t
@@ -88,6 +92,7 @@ informal hour = do
 
 -- ---- the hour, and which time it begins
 
+-- a colon or a dot behind an hour
 abbrev pub open_hour_kind : ℕ → Token → Kind → Step TimeSpec
 open_hour_kind hour t Colon = formal hour
 open_hour_kind hour t Dot = informal hour
@@ -98,6 +103,7 @@ unfoldable pub open_hour : ℕ → Option Token → Step TimeSpec
 open_hour hour None = ended expected.ColonOrDot
 open_hour hour (Some t) = open_hour_kind hour t t.kind
 
+-- a colon, a dot, am or pm behind an hour
 abbrev pub after_hour_kind : ℕ → Token → Kind → Step TimeSpec
 after_hour_kind hour t Colon = formal hour
 after_hour_kind hour t Dot = informal hour
@@ -109,13 +115,16 @@ unfoldable pub after_hour : ℕ → Option Token → Step TimeSpec
 after_hour hour None = ended expected.AmPmColonDot
 after_hour hour (Some t) = after_hour_kind hour t t.kind
 
+-- the kind is the word T
 abbrev pub kind_is_capital_t : Kind → Bool
 kind_is_capital_t (Word word) = is_capital_t word
 kind_is_capital_t other = false
 
+-- a step that answers a time, and takes no token
 abbrev pub some_time : TimeSpec → Step (Option TimeSpec)
 some_time time = pure (Some time)
 
+-- a number is an hour, and a time begins with it
 abbrev pub hour_kind : Token → Kind → Step (Option TimeSpec)
 hour_kind t (Number hour) = (do
   last ← next
@@ -123,6 +132,7 @@ hour_kind t (Number hour) = (do
   some_time time)
 hour_kind t other = refuse expected.Number t
 
+-- the same of the next token; at the end there is no time
 abbrev pub hour_or_end : Option Token → Step (Option TimeSpec)
 hour_or_end None = pure None
 hour_or_end (Some t) = hour_kind t t.kind

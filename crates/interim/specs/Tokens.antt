@@ -8,6 +8,7 @@ pub data Kind : Type 0 where
   Word : List ℕ → Kind
   Dash Slash Colon Dot Comma Plus Unknown : Kind
 
+-- what a token is, and the bytes of the phrase that it takes
 pub record Token : Type 0 where
   pub kind : Kind
   pub span : Span
@@ -16,9 +17,11 @@ pub record Token : Type 0 where
 abbrev pub is_blank : ℕ → Bool
 is_blank b = b == 32 || b == 9 || b == 10 || b == 12
 
+-- an ASCII digit
 abbrev pub is_digit : ℕ → Bool
 is_digit b = nat_le 48 b && nat_le b 57
 
+-- an ASCII letter
 abbrev pub is_letter : ℕ → Bool
 is_letter b = nat_le 65 b && nat_le b 90 || nat_le 97 b && nat_le b 122
 
@@ -35,10 +38,12 @@ abbrev pub skip : List ℕ → List ℕ
 skip [] = []
 skip (b ∷ bs) = if is_blank b then skip bs else b ∷ bs
 
+-- a number with decimal digits appended
 abbrev pub decimal_from : ℕ → List ℕ → ℕ
 decimal_from n [] = n
 decimal_from n (d ∷ ds) = decimal_from (n * 10 + (d - 48)) ds
 
+-- the token of one character that is no digit, letter or blank
 abbrev pub mark : ℕ → Kind
 mark b =
     if b == 45 then Dash else (
@@ -59,6 +64,7 @@ more b bs =
     else (if is_letter b then run_len is_letter bs
     else (if is_ascii b then 0 else run_len continues bs))
 
+-- a number, a word or a mark, by the first byte
 unfoldable pub kind_of : ℕ → List ℕ → Kind
 kind_of b text = if is_digit b then Number (decimal_from 0 text) else (if is_letter b then Word text else mark b)
 
@@ -70,6 +76,7 @@ split_at total (b ∷ bs) =
     let rest = drop n bs in
     Some (record { kind = kind_of b (b ∷ take n bs); span = record { start = total - length (b ∷ bs); end = total - length rest } }, rest)
 
+-- a token and those behind it, if there is one
 abbrev pub onward : (List ℕ → List Token) → Option (Token × List ℕ) → List Token
 onward others None = []
 onward others (Some p) = p.0 ∷ others p.1

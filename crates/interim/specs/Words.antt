@@ -61,12 +61,14 @@ day_from word =
     if bytes_eq word (codes "yesterday") then Some (negsuc 0) else (
     if bytes_eq word (codes "tomorrow") then Some (pos 1) else None))
 
+-- the word of a direction
 abbrev pub direction_from : List ℕ → Option Direction
 direction_from word =
     if bytes_eq word (codes "next") then Some Next else (
     if bytes_eq word (codes "last") then Some Last else (
     if bytes_eq word (codes "this") then Some Here else None))
 
+-- am or pm
 abbrev pub half_from : List ℕ → Option Half
 half_from word =
     if bytes_eq word (codes "am") then Some Am else (
@@ -74,24 +76,31 @@ half_from word =
 
 -- ---- the same of a word as it is written
 
+-- a month by its first three letters, as they count
 unfoldable pub month_of : List ℕ → Option ℕ
 month_of word = month_from (take 3 (counted word))
 
+-- a weekday by its first three letters, as they count
 unfoldable pub weekday_of : List ℕ → Option ℕ
 weekday_of word = weekday_from (take 3 (counted word))
 
+-- a unit of time, as the word's letters count
 unfoldable pub unit_of : List ℕ → Option Interval
 unit_of word = unit_from (counted word)
 
+-- `now`, `today`, `yesterday` and `tomorrow`, as the word's letters count
 unfoldable pub day_of_word : List ℕ → Option ℤ
 day_of_word word = day_from (counted word)
 
+-- `next`, `last` and `this`, as the word's letters count
 unfoldable pub direction_of : List ℕ → Option Direction
 direction_of word = direction_from (counted word)
 
+-- am or pm, as the word's letters count
 unfoldable pub half_of : List ℕ → Option Half
 half_of word = half_from (counted word)
 
+-- `ago`, as the word's letters count
 unfoldable pub is_ago : List ℕ → Bool
 is_ago word = bytes_eq (counted word) (codes "ago")
 

@@ -42,6 +42,7 @@ base_of [] = None
 base_of (b ∷ bytes) =
     if b == 45 then option_map (λ n. neg_ℤ (pos n)) (number_of bytes) else option_map (λ n. pos n) (number_of (b ∷ bytes))
 
+-- `uk` or `us`
 abbrev pub dialect_of : List ℕ → Option Dialect
 dialect_of bytes =
     if bytes_eq bytes (codes "uk") then Some Uk else (if bytes_eq bytes (codes "us") then Some Us else None)

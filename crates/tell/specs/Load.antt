@@ -15,6 +15,7 @@ up_to f (suc n) = up_to f n ++ f (n + 1) ∷ []
 
 -- ---- the zones
 
+-- one decimal digit of a number, as a character
 abbrev pub digit : ℕ → ℕ → ℕ
 digit n place = 48 + n / place % 10
 
@@ -39,20 +40,24 @@ fixed_zone offset = record {
   links = [];
 }
 
+-- the nth zone: its offset holds at all seconds
 abbrev pub load_zone : ℕ → NamedZone
 load_zone n = record { name = zone_name n; region = codes "001"; place = IsZone (fixed_zone (load_offset n)) }
 
+-- the zones 1 to so many
 abbrev pub load_zones : ℕ → List NamedZone
 load_zones count = up_to load_zone count
 
 -- ---- the lines
 
+-- one of four phrases, in turn
 abbrev pub load_phrase : ℕ → List ℕ
 load_phrase n =
     if n % 4 == 0 then codes "2018-03-23 20:00"
     else (if n % 4 == 1 then codes "2 days ago"
     else (if n % 4 == 2 then codes "friday 8pm" else codes "next 5:00"))
 
+-- a zone's name, the base, the dialect and the phrase
 abbrev pub load_line : ℕ → List ℕ
 load_line n = zone_name n ++ codes "\t1521622800\tuk\t" ++ load_phrase n
 
@@ -68,10 +73,12 @@ abbrev pub is_refusal : List ℕ → Bool
 is_refusal [] = false
 is_refusal (b ∷ answer) = b == 33
 
+-- how many answers are moments
 abbrev pub moments_in : List (List ℕ) → ℕ
 moments_in [] = 0
 moments_in (a ∷ answers) = if is_refusal a then moments_in answers else moments_in answers + 1
 
+-- and how many are refusals
 abbrev pub refusals_in : List (List ℕ) → ℕ
 refusals_in [] = 0
 refusals_in (a ∷ answers) = if is_refusal a then refusals_in answers + 1 else refusals_in answers

@@ -18,6 +18,7 @@ no_fields line long =
 still_long : (line : List ℕ) → 1024 < length line → 1024 < length (take 1025 line)
 still_long line long = omega (arith, length-take-le 1025 line (omega arith))
 
+-- a line of over 1,024 bytes has the reply of its first 1,025 bytes, which is `! bad line`
 pub at_cuts_long_lines : (speech : Speech) (zones : List NamedZone) → CutsLongLines (IsReply speech zones)
 at_cuts_long_lines speech zones line text long =
     let same : fields_of line ≡ fields_of (take 1025 line) = no_fields line long ∙ sym (no_fields (take 1025 line) (still_long line long)) in (
@@ -43,6 +44,7 @@ no_seconds line long =
     let some : nat_le 1 (length (without_cr line)) ≡ true = search rules in
     rw (some, fits) refl
 
+-- the same of a line that is a number of seconds
 pub ago_cuts_long_lines : (speech : Speech) → CutsLongLines (IsAgoReply speech)
 ago_cuts_long_lines speech line text long =
     let same : seconds_of line ≡ seconds_of (take 1025 line) = no_seconds line long ∙ sym (no_seconds (take 1025 line) (still_long line long)) in (

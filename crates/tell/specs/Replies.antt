@@ -39,6 +39,7 @@ pub record IsTale (z : PlainZone) (voices : Voices) (base second : ℤ) (nanos :
 
 -- ---- replies
 
+-- the reply to a line: one of five refusals, or a moment with the words of its distance
 pub data Reply : Type 0 where
   BadLine UnknownZone BadBase : Reply
   Unlawful : ZoneFault → Reply

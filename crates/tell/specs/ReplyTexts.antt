@@ -18,6 +18,7 @@ tale_text t =
     signed_decimal t.seconds ++ codes "\t" ++ decimal t.micros ++ codes "\t" ++ signed_decimal t.offset.offset ++ codes "\t"
     ++ side_text t.ahead ++ codes "\t" ++ t.text
 
+-- a reply's text: a refusal begins with an exclamation mark
 abbrev pub reply_text : Reply → List ℕ
 reply_text BadLine = codes "! bad line"
 reply_text UnknownZone = codes "! unknown zone"

@@ -9,6 +9,7 @@ use Rattle.tell.specs.Fields.{LineFields}
 use Rattle.tell.specs.Voices.{Voices}
 use Rattle.tell.specs.Replies.{Tale, Reply, UnknownZone, BadBase, Unlawful, Fault, Moment, IsReplyIn}
 
+-- an answer of `tell` as the moment, its offset there, its side and its words
 abbrev pub tale_of : Told → Tale
 tale_of t = record {
   seconds = t.seconds;

@@ -18,6 +18,7 @@ pub record Voices : Type 0 where
   pub past : Voice
   pub ahead : Voice
 
+-- the voice for what is ahead of the base, or for what is not
 abbrev pub voice_for : Voices → Bool → Voice
 voice_for voices ahead = if ahead then voices.ahead else voices.past
 

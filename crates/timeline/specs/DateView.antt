@@ -12,8 +12,10 @@ mode_number Wall = 0
 mode_number Standard = 1
 mode_number Utc = 2
 
+-- a date of a rule in its numbers
 abbrev pub plain_date : RuleDate → DateRule
 plain_date d = record { month = d.month; day = d.day; code = d.code; seconds = d.seconds; mode = mode_number d.mode }
 
+-- the dates of a rule, and its extra offset, in their numbers
 abbrev pub raw_of : RuleDates → RawRule
 raw_of d = record { start = plain_date d.start; end = plain_date d.end; extra = d.extra }

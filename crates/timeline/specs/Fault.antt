@@ -5,6 +5,7 @@ use Rattle.timeline.specs.declared.fault.ZoneFault.TheVariants.{Parts, Order, Si
 use Rattle.timeline.specs.Zone.{PlainZone}
 use Rattle.timeline.specs.Laws.{KeepsParts, KeepsOrder, KeepsSize, KeepsNear, KeepsWalls, KeepsSeam, KeepsBefore, KeepsYear}
 
+-- the number of the law that is broken
 abbrev pub fault_number : ZoneFault → ℕ
 fault_number Parts = 1
 fault_number Order = 2

@@ -32,12 +32,15 @@ pub record Step : Type 0 where
   pub before : ℤ
   pub after : ℤ
 
+-- a transition with the offset before it
 abbrev pub step : Offset → Transition → Step
 step before e = record { since = e.since; before = before.offset; after = e.offset }
 
+-- the wall second at a transition by the offset before it
 abbrev pub old_wall : Step → ℤ
 old_wall s = s.since +ℤ s.before
 
+-- and by its own
 abbrev pub new_wall : Step → ℤ
 new_wall s = s.since +ℤ s.after
 
@@ -101,6 +104,7 @@ pub record LiesIn (low high : ℤ) (s : Step) : Type 0 where
   pub new_from : low ≤ℤ new_wall s
   pub new_to : new_wall s ≤ℤ high
 
+-- both transitions of a year of a rule lie in that year, by second and by wall second
 pub record IsYearLawful (r : PlainRule) (y : ℤ) : Type 0 where
   pub first : LiesIn (year_second y) (year_second (y +ℤ pos 1)) (step (offset_of (second_entry r y)) (first_entry r y))
   pub second : LiesIn (year_second y) (year_second (y +ℤ pos 1)) (step (offset_of (first_entry r y)) (second_entry r y))

@@ -40,6 +40,7 @@ rule_date r y =
 abbrev pub counted_by : ℕ → ℤ → ℤ → ℤ
 counted_by mode before raw = if mode == 0 then before else (if mode == 1 then raw else pos 0)
 
+-- the second of a date in a year: its day's first second, its second of the day, less what that is counted by
 unfoldable pub rule_second : DateRule → ℤ → ℤ → ℤ → ℤ
 rule_second r before raw y = pos 86400 *ℤ rule_date r y +ℤ pos r.seconds -ℤ counted_by r.mode before raw
 
@@ -51,6 +52,7 @@ start_entry r y = record {
   rule_applies = not (int_eq r.extra (pos 0));
 }
 
+-- the end's transition in a year
 abbrev pub end_entry : PlainRule → ℤ → Transition
 end_entry r y = record { since = rule_second r.end (r.raw +ℤ r.extra) r.raw y; offset = r.raw; rule_applies = false }
 
@@ -60,8 +62,10 @@ start_is_first r =
     if r.start.month == r.end.month then not (nat_lt (unsigned_abs r.end.day) (unsigned_abs r.start.day))
     else nat_lt r.start.month r.end.month
 
+-- the first transition of a year
 abbrev pub first_entry : PlainRule → ℤ → Transition
 first_entry r y = if start_is_first r then start_entry r y else end_entry r y
 
+-- the second transition of a year
 abbrev pub second_entry : PlainRule → ℤ → Transition
 second_entry r y = if start_is_first r then end_entry r y else start_entry r y

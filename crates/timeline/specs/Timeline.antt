@@ -22,9 +22,11 @@ abbrev pub entry_at : PlainZone → ℕ → Option Transition
 entry_at z n =
     if nat_lt n (length z.table) then slice_get z.table n else rule_entry z.rule (n - length z.table)
 
+-- the offset that holds from a transition on
 abbrev pub offset_of : Transition → Offset
 offset_of e = record { offset = e.offset; rule_applies = e.rule_applies }
 
+-- that of a transition, if there is one, or else this one
 abbrev pub offset_or : Offset → Option Transition → Offset
 offset_or m None = m
 offset_or m (Some e) = offset_of e

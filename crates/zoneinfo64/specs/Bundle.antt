@@ -46,6 +46,7 @@ list_or_empty kind (Some r) = kind r
 abbrev pub longest_month : ℕ → ℕ
 longest_month m = if m == 1 then 29 else (if (m == 3) || (m == 5) || (m == 8) || (m == 10) then 30 else 31)
 
+-- from the first number to the second, both among them
 abbrev pub between : ℤ → ℤ → ℤ → Bool
 between low high z = int_le low z && int_le z high
 
@@ -118,10 +119,12 @@ table_of pairs (second ∷ seconds) (n ∷ numbers) = do
   Some (transition_to pair second ∷ others)
 table_of pairs seconds numbers = None
 
+-- the first of a list
 abbrev pub first_of : {A : Type 0} → List A → Option A
 first_of [] = None
 first_of (x ∷ xs) = Some x
 
+-- the zone that a table holds: its pairs of offsets, its lists of seconds and numbers, and its rule, each as it must be
 unfoldable pub plain_zone_of : List (List ℕ × RawRule) → Resource → Option PlainZone
 plain_zone_of rules zone = do
   types ← field_in (codes "typeOffsets") zone
@@ -158,9 +161,11 @@ region_byte c = if nat_lt c 128 then c else 0
 abbrev pub region_byte_at : List ℕ → ℕ → ℕ
 region_byte_at chars n = region_byte (slice_index_or chars n 0)
 
+-- an ASCII capital
 abbrev pub is_capital : ℕ → Bool
 is_capital c = nat_le 65 c && nat_le c 90
 
+-- an ASCII digit
 abbrev pub is_digit : ℕ → Bool
 is_digit c = nat_le 48 c && nat_le c 57
 
@@ -173,6 +178,7 @@ region_code a b c =
 abbrev pub region_of_chars : List ℕ → Option (List ℕ)
 region_of_chars chars = region_code (region_byte_at chars 0) (region_byte_at chars 1) (region_byte_at chars 2)
 
+-- the region that units write
 abbrev pub region_of : List ℕ → Option (List ℕ)
 region_of units = region_of_chars (utf16_lossy_chars units)
 
@@ -185,6 +191,7 @@ place_of rules zone = or_else (index_in zone) (entries_in zone)
     or_else None (Some entries) = plain_zone_of rules zone >>= λ z. Some (IsZone z)
     or_else None None = None
 
+-- the zone, the name and the region of one place of the three arrays
 unfoldable pub named_zone : List (List ℕ × RawRule) → Resource → Resource → Resource → Option NamedZone
 named_zone rules zone name region = do
   units ← text_in name
@@ -213,6 +220,7 @@ abbrev pub is_resolved : List NamedZone → Place → Bool
 is_resolved zones (IsZone z) = true
 is_resolved zones (IsAlias n) = is_some (zone_at zones n)
 
+-- each alias is the place of a zone that is no alias
 abbrev pub all_resolved : List NamedZone → List NamedZone → Bool
 all_resolved zones [] = true
 all_resolved zones (e ∷ es) = is_resolved zones e.place && all_resolved zones es

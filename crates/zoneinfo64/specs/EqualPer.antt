@@ -46,5 +46,6 @@ zones =
 names : IsEquivalence same_names
 names = and_equiv (on_equiv (λ (e : NamedZone). e.name) (lists_equiv nat_eq_equiv)) (on_equiv (λ (e : NamedZone). e.region) (lists_equiv nat_eq_equiv))
 
+-- equality of zones is symmetric and transitive
 pub zones_per : IsPartialEquivalence same_zones
 zones_per = partial_equiv_from_equiv (and_equiv (on_equiv entry_of (options_equiv names)) (on_equiv plain_zone (options_equiv zones)))

@@ -21,10 +21,12 @@ pub record NamedZone : Type 0 where
 abbrev pub name_text : List ℕ → List ℕ
 name_text units = encode_utf8_all (utf16_lossy_chars units)
 
+-- the zone of what stands at a place, where that is no alias
 abbrev pub zone_of : Place → Option PlainZone
 zone_of (IsZone z) = Some z
 zone_of (IsAlias n) = None
 
+-- the same of an entry, if there is one
 abbrev pub zone_in : Option NamedZone → Option PlainZone
 zone_in None = None
 zone_in (Some e) = zone_of e.place
@@ -38,6 +40,7 @@ abbrev pub resolved : List NamedZone → Place → Option PlainZone
 resolved zones (IsZone z) = Some z
 resolved zones (IsAlias n) = zone_at zones n
 
+-- the zone of an entry, or the one that its alias stands for
 abbrev pub resolved_in : List NamedZone → Option NamedZone → Option PlainZone
 resolved_in zones None = None
 resolved_in zones (Some e) = resolved zones e.place

@@ -9,9 +9,11 @@ use Rattle.zoned.specs.declared.offset.CivilOffset.TheVariants as Civil
 use Rattle.zoneinfo64.specs.declared.zone.Zone.{Zone}
 use Rattle.zoneinfo64.specs.declared.chrono.ChronoOffset.{ChronoOffset}
 
+-- the offset of an offset with its zone
 abbrev pub offset_told : ChronoOffset → Offset
 offset_told o = o.offset
 
+-- and its zone
 abbrev pub zone_told : ChronoOffset → Zone
 zone_told o = o.zone
 

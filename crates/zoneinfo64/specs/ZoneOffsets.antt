@@ -8,6 +8,7 @@ use Rattle.zoneinfo64.specs.ShownOffsets.{shown_offsets}
 use Rattle.zoneinfo64.specs.declared.zone.Zone.{Zone}
 use Rattle.zoneinfo64.specs.ZoneView.{plain_zone}
 
+-- the offset of a zone at a second, 0 without a zone
 abbrev pub off_in : Option PlainZone → ℤ → ℤ
 off_in None t = pos 0
 off_in (Some z) t = seconds_at z t

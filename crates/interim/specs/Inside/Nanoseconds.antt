@@ -27,5 +27,6 @@ parts_cmp s t f g h k =
       | inr (inr seconds) ↦ rw (later s t seconds) (later (s * 1000000000 + f) (t * 1000000000 + g) (omega (arith, seconds)))
     ]
 
+-- moments of seconds and nanoseconds are ordered as their nanoseconds are
 pub same_order : (s t f g : ℕ) → f < 1000000000 → g < 1000000000 → Some (nat_cmp (s * 1000000000 + f) (t * 1000000000 + g)) ≡ Some (match_ordering (nat_cmp s t) Less (nat_cmp f g) Greater)
 same_order s t f g h k = ap Some (parts_cmp s t f g h k)

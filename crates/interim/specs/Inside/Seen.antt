@@ -7,6 +7,7 @@ use Rattle.interim.specs.declared.lexer.Kind.{Kind as Written}
 use Rattle.interim.specs.declared.lexer.Kind.TheVariants as w
 use Rattle.interim.specs.declared.lexer.Token.{Token as WrittenToken}
 
+-- a token's kind with the text that it borrows
 abbrev pub seen_kind : Written → Kind
 seen_kind (w.Number n) = Number n
 seen_kind (w.Word text) = Word text.now
@@ -18,13 +19,16 @@ seen_kind w.Comma = Comma
 seen_kind w.Plus = Plus
 seen_kind w.Unknown = Unknown
 
+-- a token with the text that it borrows
 abbrev pub seen : WrittenToken → Token
 seen t = record { kind = seen_kind t.kind; span = t.span }
 
+-- the same, if there is one
 abbrev pub seen_option : Option WrittenToken → Option Token
 seen_option None = None
 seen_option (Some t) = Some (seen t)
 
+-- the same of a kind, if there is one
 abbrev pub seen_kind_option : Option Written → Option Kind
 seen_kind_option None = None
 seen_kind_option (Some k) = Some (seen_kind k)

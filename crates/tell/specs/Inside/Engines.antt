@@ -8,5 +8,6 @@ pub record Dates : Type 0 where
   pub language : AnyLanguage
   pub zones : List NamedZone
 
+-- the engine of `at` in a language, with these zones
 abbrev pub dates : AnyLanguage → List NamedZone → Dates
 dates language zones = record { language = language; zones = zones }

@@ -5,9 +5,11 @@ use Rattle.interim.specs.declared.types.Dialect.{Dialect}
 use Rattle.tell.specs.Fields.{LineFields, cut, number_of, base_of, dialect_of}
 use Rattle.tell.specs.declared.fields.Fields.{Fields}
 
+-- the fields of a line as what they hold
 abbrev pub fields_view : Fields → LineFields
 fields_view f = record { zone = f.zone.now; base = f.base; dialect = f.dialect; phrase = f.phrase.now }
 
+-- the same, if there are fields
 abbrev pub option_view : Option Fields → Option LineFields
 option_view None = None
 option_view (Some f) = Some (fields_view f)

@@ -4,6 +4,7 @@ use Rattle.zoneinfo64.specs.Promises.{ZonesPlaceAlike}
 use Rattle.interim.specs.Laws.{PlainFormsAreRead}
 use Rattle.interim.specs.MeaningLaws.{PlainFormsAreInside, PlainFormsMean, SoundMeaning}
 
+-- what the crates below prove of phrases and of zones
 pub record LawsBelow : Type 0 where
   pub read : PlainFormsAreRead
   pub means : PlainFormsMean

@@ -5,12 +5,15 @@ use Rattle.resb_tree.specs.declared.resource.Resource.{Resource}
 use Rattle.resb_tree.specs.declared.resource.Resource.TheVariants as r
 use Rattle.tell.specs.Load.{up_to, zone_name, load_offset}
 
+-- a table with the one offset of the nth zone
 abbrev pub zone_tree : ℕ → Resource
 zone_tree n = r.Table ((codes "typeOffsets", r.Integers (cast_unsigned w32 (load_offset n) ∷ 0 ∷ [])) ∷ [])
 
+-- the name of the nth zone
 abbrev pub name_tree : ℕ → Resource
 name_tree n = r.Text (zone_name n)
 
+-- the region of each zone
 abbrev pub region_tree : ℕ → Resource
 region_tree n = r.Text (codes "001")
 

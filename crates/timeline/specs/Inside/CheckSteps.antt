@@ -22,17 +22,21 @@ pub record AreNear (a b : Walls) : Type 0 where
   pub to_second : a.latest ≤ℤ b.since
   pub from_second : a.since ≤ℤ b.earliest
 
+-- the walls of the second begin where those of the first end, or later
 abbrev pub AreWalled : Walls → Walls → Type 0
 AreWalled a b = a.latest ≤ℤ b.earliest
 
+-- a transition lies before a second, and its later wall does not pass that
 pub record EndBefore (limit : ℤ) (w : Walls) : Type 0 where
   pub since : w.since <ℤ limit
   pub latest : w.latest ≤ℤ limit
 
+-- neither a transition nor its earlier wall lies before a second
 pub record BeginFrom (low : ℤ) (w : Walls) : Type 0 where
   pub since : low ≤ℤ w.since
   pub earliest : low ≤ℤ w.earliest
 
+-- both lie between two seconds
 abbrev pub LieIn : ℤ → ℤ → Walls → Type 0
 LieIn low high w = BeginFrom low w × EndBefore high w
 
@@ -63,6 +67,7 @@ table_before initial table (suc n) = offset_or initial (slice_get table n)
 abbrev pub table_walls : Offset → List Transition → ℕ → Transition → Walls
 table_walls initial table n e = walls (step (table_before initial table n) e)
 
+-- the walls of the entry before the nth, if there is one
 abbrev pub walls_before : Offset → List Transition → ℕ → Option Walls
 walls_before initial table zero = None
 walls_before initial table (suc n) = option_map (table_walls initial table n) (slice_get table n)
@@ -95,6 +100,7 @@ RuleKeeps r last fault.Size = IsSmall r.raw × IsSmall (r.raw +ℤ r.extra)
 RuleKeeps r last fault.Before = last ≡ offset_of (second_entry r r.first_year)
 RuleKeeps r last f = Unit {0}
 
+-- what the laws ask of the initial offset
 abbrev pub SizeKept : Offset → ZoneFault → Type 0
 SizeKept initial fault.Size = IsSmall initial.offset
 SizeKept initial f = Unit {0}

@@ -18,6 +18,7 @@ places_of r = map (place_in_kind r) (range_with_len 0 14)
 abbrev pub time_mode : ℕ → TimeMode
 time_mode n = if n == 0 then Wall else (if n == 1 then Standard else Utc)
 
+-- what is kept of a date: its place in each kind of year, its second of the day, and what that is counted by
 abbrev pub kind_date : DateRule → KindDate
 kind_date r = record { places = places_of r; seconds = r.seconds; mode = time_mode r.mode }
 
@@ -30,6 +31,7 @@ pub record KeptRule : Type 0 where
   pub start_is_first : Bool
   pub first_year : ℤ
 
+-- what is kept of a rule: both dates, its offsets, which date is first, and its first year
 unfoldable pub kept_rule : PlainRule → KeptRule
 kept_rule r = record {
   start = kind_date r.start;
@@ -42,6 +44,7 @@ kept_rule r = record {
 
 -- ---- a year by what is kept
 
+-- what is taken off a wall time to tell the second: the offset before it, the standard offset, or nothing
 abbrev pub taken_off : TimeMode → ℤ → ℤ → ℤ
 taken_off Wall before raw = before
 taken_off Standard before raw = raw
@@ -60,5 +63,6 @@ kept_start r start k = record {
   rule_applies = not (int_eq r.extra (pos 0));
 }
 
+-- the end's transition in a year that begins on this day and is of this kind
 abbrev pub kept_end : KeptRule → ℤ → ℕ → Transition
 kept_end r start k = record { since = kind_second r.end (r.raw +ℤ r.extra) r.raw start k; offset = r.raw; rule_applies = false }

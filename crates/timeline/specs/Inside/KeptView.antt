@@ -4,6 +4,7 @@ use Rattle.timeline.specs.Zone.{fits_i32}
 use Rattle.timeline.specs.Inside.KeptRules.{KeptRule}
 use Rattle.timeline.specs.declared.rule.YearRule.TheInside.{Inside}
 
+-- what the fields keep of a rule
 abbrev pub kept_view : Inside → KeptRule
 kept_view a = record {
   start = a.start;

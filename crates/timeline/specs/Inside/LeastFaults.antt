@@ -8,6 +8,7 @@ abbrev pub TellsLeast : (ZoneFault → Type 0) → Result (Unit {0}) ZoneFault �
 TellsLeast K (Ok x) = (f : ZoneFault) → K f
 TellsLeast K (Err f) = (K f → ⊥) × ((g : ZoneFault) → fault_number g < fault_number f → K g)
 
+-- the least of the laws that two answers say are broken
 abbrev pub least_of : Result (Unit {0}) ZoneFault → Result (Unit {0}) ZoneFault → Result (Unit {0}) ZoneFault
 least_of (Ok x) other = other
 least_of (Err f) (Ok x) = Err f

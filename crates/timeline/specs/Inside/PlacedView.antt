@@ -6,6 +6,7 @@ use Rattle.timeline.specs.Ranges.{AreDatesInRange}
 use Rattle.timeline.specs.DateView.{plain_date, raw_of}
 use Rattle.timeline.specs.declared.dates.PlacedDates.TheInside.{Inside}
 
+-- the dates and the extra offset, in their numbers
 abbrev pub raw_view : Inside → RawRule
 raw_view a = raw_of a.dates
 

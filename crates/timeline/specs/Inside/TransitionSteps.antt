@@ -16,6 +16,7 @@ pub record IsFirst (z : PlainZone) (change : Bool) (from to n : ℕ) (e : Transi
   pub high : n < to
   pub first : (m : ℕ) (f : Transition) → from ≤ m → m < to → Counts z change m f → n ≤ m
 
+-- the first entry that counts of those between two numbers, if there is one
 abbrev pub FirstIn : PlainZone → Bool → ℕ → ℕ → Option Transition → Type 0
 FirstIn z change from to None = (m : ℕ) (f : Transition) → from ≤ m → m < to → Counts z change m f → ⊥
 FirstIn z change from to (Some e) = (n : ℕ) × IsFirst z change from to n e
@@ -26,6 +27,7 @@ pub record IsFirstFrom (z : PlainZone) (change : Bool) (from n : ℕ) (e : Trans
   pub low : from ≤ n
   pub first : (m : ℕ) (f : Transition) → from ≤ m → Counts z change m f → n ≤ m
 
+-- the first entry that counts from a number on, if there is one
 abbrev pub FirstFrom : PlainZone → Bool → ℕ → Option Transition → Type 0
 FirstFrom z change from None = (m : ℕ) (f : Transition) → from ≤ m → Counts z change m f → ⊥
 FirstFrom z change from (Some e) = (n : ℕ) × IsFirstFrom z change from n e
@@ -36,6 +38,7 @@ pub record IsLast (z : PlainZone) (change : Bool) (to n : ℕ) (e : Transition) 
   pub high : n < to
   pub last : (m : ℕ) (f : Transition) → m < to → Counts z change m f → m ≤ n
 
+-- the last entry that counts below a number, if there is one
 abbrev pub LastBelow : PlainZone → Bool → ℕ → Option Transition → Type 0
 LastBelow z change to None = (m : ℕ) (f : Transition) → m < to → Counts z change m f → ⊥
 LastBelow z change to (Some e) = (n : ℕ) × IsLast z change to n e
@@ -70,6 +73,7 @@ first_of_year change year.Table = None
 first_of_year change (year.Rule before first second) = if is_idle change before first then None else Some first
 first_of_year change (year.Past last) = None
 
+-- the second of a year's two transitions, where it counts by what stands before the first one
 abbrev pub last_of_year : Bool → YearEntries → Option Transition
 last_of_year change year.Table = None
 last_of_year change (year.Rule before first second) = if is_idle change before first then None else Some second

@@ -8,12 +8,14 @@ use Rattle.timeline.specs.Rule.{first_entry, second_entry}
 use Rattle.timeline.specs.Timeline.{offset_of}
 use Rattle.timeline.specs.Promises.{IsOfYear}
 
+-- before its first year a rule has no transitions, and from year 2,147,483,647 on none but what that year begins with
 abbrev pub rule_entries_in : PlainRule → ℤ → YearEntries
 rule_entries_in r y =
     if int_lt y r.first_year then year.Table
     else (if int_lt y (pos 2147483647) then year.Rule (offset_of (second_entry r y)) (first_entry r y) (second_entry r y)
     else year.Past (offset_of (second_entry r y)))
 
+-- without a rule there are those of the table alone
 abbrev pub entries_in : Option PlainRule → ℤ → YearEntries
 entries_in None y = year.Table
 entries_in (Some r) y = rule_entries_in r y

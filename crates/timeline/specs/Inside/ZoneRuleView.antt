@@ -6,6 +6,7 @@ use Rattle.timeline.specs.Inside.KeptRules.{kept_rule}
 use Rattle.timeline.specs.DateView.{raw_of}
 use Rattle.timeline.specs.declared.dates.ZoneRule.TheInside.{Inside}
 
+-- the rule that the fields keep
 abbrev pub rule_view : Inside → PlainRule
 rule_view a = plain_rule (raw_of a.dates) a.years.raw a.years.first_year
 

@@ -29,6 +29,7 @@ Reads view (Err errors.Tree) found = ⊥
 
 -- ---- rules
 
+-- the rule that a list of integers holds
 unfoldable pub rule_in : Resource → Option RawRule
 rule_in value = do
   words ← integers_in value
@@ -47,6 +48,7 @@ ReadsRules (Err errors.Memory) rules = Unit {0}
 ReadsRules (Err errors.Rules) rules = rules ≡ None
 ReadsRules (Err errors.Tree) rules = ⊥
 
+-- the rule of this name from a year on, with the standard offset, where the sum with the extra one fits
 unfoldable pub used_rule : (List ℕ → Option RawRule) → Resource → Resource → Resource → Option PlainRule
 used_rule find key raw year = do
   text ← text_in key
@@ -61,6 +63,7 @@ rule_fields find None None None = Some None
 rule_fields find (Some key) (Some raw) (Some year) = used_rule find key raw year >>= λ rule. Some (Some rule)
 rule_fields find key raw year = None
 
+-- the rule of a zone by its three fields
 unfoldable pub zone_rule : (List ℕ → Option RawRule) → Resource → Option (Option PlainRule)
 zone_rule find zone =
     rule_fields find (field_in (codes "finalRule") zone) (field_in (codes "finalRaw") zone) (field_in (codes "finalYear") zone)
@@ -80,6 +83,7 @@ offset_steps (a ∷ b ∷ words) = do
   pairs ← offset_steps words
   Some (pair ∷ pairs)
 
+-- the pairs of offsets of a zone
 unfoldable pub type_offsets : Resource → Option (List (ℤ × ℤ))
 type_offsets zone = do
   types ← field_in (codes "typeOffsets") zone
@@ -90,12 +94,15 @@ type_offsets zone = do
 abbrev pub initial_of : List (ℤ × ℤ) → Option Offset
 initial_of pairs = first_of pairs >>= λ pair. Some (pair_offset pair)
 
+-- the words of a field, none without the field
 unfoldable pub integers_at : List ℕ → Resource → Option (List ℕ)
 integers_at key zone = list_or_empty integers_in (field_in key zone)
 
+-- the bytes of a field, none without the field
 unfoldable pub bytes_at : List ℕ → Resource → Option (List ℕ)
 bytes_at key zone = list_or_empty bytes_in (field_in key zone)
 
+-- a second in two words, the high one first
 abbrev pub wide_second : ℕ → ℕ → ℤ
 wide_second a b = as_i32 a *ℤ pos 4294967296 +ℤ pos b
 
@@ -105,6 +112,7 @@ wide [] = []
 wide (a ∷ []) = []
 wide (a ∷ b ∷ words) = wide_second a b ∷ wide words
 
+-- the seconds of a field of two words each
 unfoldable pub wide_at : List ℕ → Resource → Option (List ℤ)
 wide_at key zone = do
   words ← integers_at key zone
@@ -117,9 +125,11 @@ abbrev pub with_front : {A : Type 0} → List A → Option (List A) → Option (
 with_front front None = None
 with_front front (Some xs) = Some (front ++ xs)
 
+-- the seconds of the three parts, in their order
 abbrev pub seconds_of : List ℕ → List ℕ → List ℕ → List ℤ
 seconds_of early middle late = wide early ++ map as_i32 middle ++ wide late
 
+-- the same with the lengths of the first and the third part
 abbrev pub plain_seconds : List ℕ → List ℕ → List ℕ → PlainSeconds
 plain_seconds early middle late = record { list = seconds_of early middle late; early = length (wide early); late = length (wide late) }
 
@@ -146,6 +156,7 @@ zone_with initial table early late rule pairs numbers links = record {
   links = links;
 }
 
+-- the zone that a table holds
 unfoldable pub zone_steps : (List ℕ → Option RawRule) → Resource → Option PlainZone
 zone_steps find zone = do
   pairs ← type_offsets zone
@@ -161,13 +172,16 @@ zone_steps find zone = do
 
 -- ---- the list
 
+-- an alias, where there is a number; else the zone
 abbrev pub place_by : Option ℕ → (List ℕ → Option RawRule) → Resource → Option Place
 place_by (Some n) find zone = Some (IsAlias n)
 place_by None find zone = zone_steps find zone >>= λ plain. Some (IsZone plain)
 
+-- what stands in the array of zones: an alias or a zone
 unfoldable pub place_steps : (List ℕ → Option RawRule) → Resource → Option Place
 place_steps find zone = place_by (index_in zone) find zone
 
+-- the zone, the name and the region of one place of the three arrays
 unfoldable pub named_steps : (List ℕ → Option RawRule) → Resource → Resource → Resource → Option NamedZone
 named_steps find zone name region = do
   units ← text_in name
@@ -176,6 +190,7 @@ named_steps find zone name region = do
   place ← place_steps find zone
   Some (record { name = units; region = code; place = place })
 
+-- those of each place
 abbrev pub list_steps : (List ℕ → Option RawRule) → List Resource → List Resource → List Resource → Option (List NamedZone)
 list_steps find [] [] [] = Some []
 list_steps find (zone ∷ zones) (name ∷ names) (region ∷ regions) = do
@@ -188,11 +203,13 @@ list_steps find zones names regions = None
 abbrev pub is_before : NamedZone → NamedZone → Bool
 is_before a b = is_lt (slice_cmp nat_cmp (name_text a.name) (name_text b.name))
 
+-- the items of a field
 unfoldable pub array_in : List ℕ → Resource → Option (List Resource)
 array_in key root = do
   field ← field_in key root
   items_in field
 
+-- the entries of a field
 unfoldable pub table_in : List ℕ → Resource → Option (List (List ℕ × Resource))
 table_in key root = do
   field ← field_in key root
@@ -203,12 +220,14 @@ abbrev pub are_arrays : List Resource → List Resource → List Resource → Bo
 are_arrays zones names regions =
     nat_lt 0 (length zones) && nat_le (length zones) 65536 && (length names == length zones) && (length regions == length zones)
 
+-- the zones of three arrays, where the names rise and each alias is the place of a zone
 unfoldable pub checked_steps : (List ℕ → Option RawRule) → List Resource → List Resource → List Resource → Option (List NamedZone)
 checked_steps find zones names regions =
     if are_arrays zones names regions then (do
       list ← list_steps find zones names regions
       when (rises list && all_resolved list list) list) else None
 
+-- the zones of a bundle's root
 unfoldable pub root_steps : Resource → Option (List NamedZone)
 root_steps root = do
   zones ← array_in (codes "Zones") root

@@ -14,13 +14,16 @@ abbrev pub seen_data : Option (Bor PlainZone) → Option PlainZone
 seen_data None = None
 seen_data (Some d) = Some d.now
 
+-- what stands at a place
 abbrev pub place_of_item : Item → Place
 place_of_item (item.Zone d) = IsZone d
 place_of_item (item.Alias n) = IsAlias n
 
+-- an entry of the list as the zone, the name and the region of a place
 abbrev pub named_of : Named → NamedZone
 named_of n = record { name = n.name; region = n.region; place = place_of_item n.item }
 
+-- the zones of the entries
 abbrev pub zones_of : List Named → List NamedZone
 zones_of entries = map named_of entries
 
