@@ -38,8 +38,11 @@ impl NaiveDate {
     ///
     /// From 2016-03-01 to 2020-02-29 they are 3, and the other way `None`.
     pub fn years_since(&self, base: NaiveDate) -> Option<u32>
-        ensures some { (y : ℤ) (m d : ℕ) (y' : ℤ) (m' d' : ℕ) → IsDateOf self.now y m d → IsDateOf base y' m' d' → IsSome result ↔ pos 0 ≤ℤ years_between y m d y' m' d' }
-        ensures value { (y : ℤ) (m d : ℕ) (y' : ℤ) (m' d' : ℕ) → IsDateOf self.now y m d → IsDateOf base y' m' d' → IfSome result (λ years. pos years ≡ years_between y m d y' m' d') }
+        ensures some { (y : ℤ) (m d : ℕ) (y' : ℤ) (m' d' : ℕ) → IsDateOf self.now y m d
+            → IsDateOf base y' m' d' → IsSome result ↔ pos 0 ≤ℤ years_between y m d y' m' d' }
+        ensures value { (y : ℤ) (m d : ℕ) (y' : ℤ) (m' d' : ℕ) → IsDateOf self.now y m d
+            → IsDateOf base y' m' d'
+            → IfSome result (λ years. pos years ≡ years_between y m d y' m' d') }
     {
         let (year, month, day) = year_month_day(self.day_number());
         let (base_year, base_month, base_day) = year_month_day(base.day_number());

@@ -65,7 +65,8 @@ pub fn days_before_month(year: i32, month: u8) -> u16
 fn years_in_cycle(days: u32) -> u32
     requires { days < 146097 }
     ensures begun { 365 * result + result / 4 ≤ days + result / 100 }
-    ensures not_over { days + (result + 1) / 100 < 365 * (result + 1) + (result + 1) / 4 + (result + 1) / 400 }
+    ensures not_over { days + (result + 1) / 100
+        < 365 * (result + 1) + (result + 1) / 4 + (result + 1) / 400 }
     ensures bound { result < 400 }
 {
     let centuries = (days / 36_524).min(3);
@@ -100,7 +101,8 @@ fn year_near(day: i64) -> i64
 ///
 /// It is `None` exactly where that year is no `i32`.
 pub fn year_of_day(day: i64) -> Option<i32>
-    ensures some { IsSome result ↔ (year_start (negsuc 2147483647) ≤ℤ day) × (day <ℤ year_start (pos 2147483648)) }
+    ensures some { IsSome result
+        ↔ (year_start (negsuc 2147483647) ≤ℤ day) × (day <ℤ year_start (pos 2147483648)) }
     ensures year { IfSome result (λ year. HoldsDay year day) }
 {
     if day < FIRST_DAY || day > LAST_DAY {

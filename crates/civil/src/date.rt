@@ -124,26 +124,34 @@ pub trait Datelike: Sized {
     /// The date with this year. 2020-02-29 with the year 2016 is 2016-02-29, and with the year 2019 `None`.
     fn with_year(&self, year: i32) -> Option<Self>
         ensures kept { IfSome result (λ date. keeps self.now date) }
-        ensures changed { (y : ℤ) (m d : ℕ) → IsDateOf (number self.now) y m d → IfSome result (λ date. IsDateOf (number date) year m d) }
-        ensures exists { settled self.now → (y : ℤ) (m d : ℕ) → IsDateOf (number self.now) y m d → IsSome result ↔ IsDate year m d × takes self.now (day_of year m d) };
+        ensures changed { (y : ℤ) (m d : ℕ) → IsDateOf (number self.now) y m d
+            → IfSome result (λ date. IsDateOf (number date) year m d) }
+        ensures exists { settled self.now → (y : ℤ) (m d : ℕ) → IsDateOf (number self.now) y m d
+            → IsSome result ↔ IsDate year m d × takes self.now (day_of year m d) };
 
     /// The date with this month, from 1 to 12. 2020-01-31 with month 3 is 2020-03-31, and with month 2 or 13 `None`.
     fn with_month(&self, month: u32) -> Option<Self>
         ensures kept { IfSome result (λ date. keeps self.now date) }
-        ensures changed { (y : ℤ) (m d : ℕ) → IsDateOf (number self.now) y m d → IfSome result (λ date. IsDateOf (number date) y month d) }
-        ensures exists { settled self.now → (y : ℤ) (m d : ℕ) → IsDateOf (number self.now) y m d → IsSome result ↔ IsDate y month d × takes self.now (day_of y month d) };
+        ensures changed { (y : ℤ) (m d : ℕ) → IsDateOf (number self.now) y m d
+            → IfSome result (λ date. IsDateOf (number date) y month d) }
+        ensures exists { settled self.now → (y : ℤ) (m d : ℕ) → IsDateOf (number self.now) y m d
+            → IsSome result ↔ IsDate y month d × takes self.now (day_of y month d) };
 
     /// The date with this day of the month, from 1. 2020-02-01 with day 29 is 2020-02-29, and with day 30 or 0 `None`.
     fn with_day(&self, day: u32) -> Option<Self>
         ensures kept { IfSome result (λ date. keeps self.now date) }
-        ensures changed { (y : ℤ) (m d : ℕ) → IsDateOf (number self.now) y m d → IfSome result (λ date. IsDateOf (number date) y m day) }
-        ensures exists { settled self.now → (y : ℤ) (m d : ℕ) → IsDateOf (number self.now) y m d → IsSome result ↔ IsDate y m day × takes self.now (day_of y m day) };
+        ensures changed { (y : ℤ) (m d : ℕ) → IsDateOf (number self.now) y m d
+            → IfSome result (λ date. IsDateOf (number date) y m day) }
+        ensures exists { settled self.now → (y : ℤ) (m d : ℕ) → IsDateOf (number self.now) y m d
+            → IsSome result ↔ IsDate y m day × takes self.now (day_of y m day) };
 
     /// The date with this day of the year, from 1. 2020-02-29 with day 366 is 2020-12-31; 2019-02-28 has none.
     fn with_ordinal(&self, ordinal: u32) -> Option<Self>
         ensures kept { IfSome result (λ date. keeps self.now date) }
-        ensures changed { (y : ℤ) (n : ℕ) → IsOrdinalOf (number self.now) y n → IfSome result (λ date. IsOrdinalOf (number date) y ordinal) }
-        ensures exists { settled self.now → (y : ℤ) (n : ℕ) → IsOrdinalOf (number self.now) y n → IsSome result ↔ IsOrdinal y ordinal × takes self.now (ordinal_day y ordinal) };
+        ensures changed { (y : ℤ) (n : ℕ) → IsOrdinalOf (number self.now) y n
+            → IfSome result (λ date. IsOrdinalOf (number date) y ordinal) }
+        ensures exists { settled self.now → (y : ℤ) (n : ℕ) → IsOrdinalOf (number self.now) y n
+            → IsSome result ↔ IsOrdinal y ordinal × takes self.now (ordinal_day y ordinal) };
 
     /// The month, from 0 for January to 11 for December.
     final fn month0(&self) -> u32
@@ -169,8 +177,10 @@ pub trait Datelike: Sized {
     /// The date with this month, from 0 to 11. 2020-01-31 with month 2 is 2020-03-31.
     final fn with_month0(&self, month: u32) -> Option<Self>
         ensures kept { IfSome result (λ date. keeps self.now date) }
-        ensures changed { (y : ℤ) (m d : ℕ) → IsDateOf (number self.now) y m d → IfSome result (λ date. IsDateOf (number date) y (month + 1) d) }
-        ensures exists { settled self.now → (y : ℤ) (m d : ℕ) → IsDateOf (number self.now) y m d → IsSome result ↔ IsDate y (month + 1) d × takes self.now (day_of y (month + 1) d) }
+        ensures changed { (y : ℤ) (m d : ℕ) → IsDateOf (number self.now) y m d
+            → IfSome result (λ date. IsDateOf (number date) y (month + 1) d) }
+        ensures exists { settled self.now → (y : ℤ) (m d : ℕ) → IsDateOf (number self.now) y m d
+            → IsSome result ↔ IsDate y (month + 1) d × takes self.now (day_of y (month + 1) d) }
     {
         if month >= 12 {
             None
@@ -182,8 +192,10 @@ pub trait Datelike: Sized {
     /// The date with this day of the month, from 0. 2020-02-01 with day 28 is 2020-02-29.
     final fn with_day0(&self, day: u32) -> Option<Self>
         ensures kept { IfSome result (λ date. keeps self.now date) }
-        ensures changed { (y : ℤ) (m d : ℕ) → IsDateOf (number self.now) y m d → IfSome result (λ date. IsDateOf (number date) y m (day + 1)) }
-        ensures exists { settled self.now → (y : ℤ) (m d : ℕ) → IsDateOf (number self.now) y m d → IsSome result ↔ IsDate y m (day + 1) × takes self.now (day_of y m (day + 1)) }
+        ensures changed { (y : ℤ) (m d : ℕ) → IsDateOf (number self.now) y m d
+            → IfSome result (λ date. IsDateOf (number date) y m (day + 1)) }
+        ensures exists { settled self.now → (y : ℤ) (m d : ℕ) → IsDateOf (number self.now) y m d
+            → IsSome result ↔ IsDate y m (day + 1) × takes self.now (day_of y m (day + 1)) }
     {
         if day >= 31 {
             None
@@ -195,8 +207,11 @@ pub trait Datelike: Sized {
     /// The date with this day of the year, from 0. 2020-02-29 with day 365 is 2020-12-31.
     final fn with_ordinal0(&self, ordinal: u32) -> Option<Self>
         ensures kept { IfSome result (λ date. keeps self.now date) }
-        ensures changed { (y : ℤ) (n : ℕ) → IsOrdinalOf (number self.now) y n → IfSome result (λ date. IsOrdinalOf (number date) y (ordinal + 1)) }
-        ensures exists { settled self.now → (y : ℤ) (n : ℕ) → IsOrdinalOf (number self.now) y n → IsSome result ↔ IsOrdinal y (ordinal + 1) × takes self.now (ordinal_day y (ordinal + 1)) }
+        ensures changed { (y : ℤ) (n : ℕ) → IsOrdinalOf (number self.now) y n
+            → IfSome result (λ date. IsOrdinalOf (number date) y (ordinal + 1)) }
+        ensures exists { settled self.now → (y : ℤ) (n : ℕ) → IsOrdinalOf (number self.now) y n
+            → IsSome result
+            ↔ IsOrdinal y (ordinal + 1) × takes self.now (ordinal_day y (ordinal + 1)) }
     {
         if ordinal >= 366 {
             None

@@ -69,8 +69,10 @@ impl NaiveDate {
     fn moved_by_months(self, months: i64) -> Option<NaiveDate>
         requires low { negsuc 4294967295 ≤ℤ months }
         requires high { months ≤ℤ pos 4294967295 }
-        ensures some { (y : ℤ) (m d : ℕ) → IsDateOf self y m d → IsSome result ↔ IsDay (months_on y m d months) }
-        ensures value { (y : ℤ) (m d : ℕ) → IsDateOf self y m d → IfSome result (λ date. date ≡ months_on y m d months) }
+        ensures some { (y : ℤ) (m d : ℕ) → IsDateOf self y m d
+            → IsSome result ↔ IsDay (months_on y m d months) }
+        ensures value { (y : ℤ) (m d : ℕ) → IsDateOf self y m d
+            → IfSome result (λ date. date ≡ months_on y m d months) }
     {
         let (year, month, day) = year_month_day(self.day_number());
         let (new_year, new_month) = month_after(year, month, months);
@@ -80,8 +82,10 @@ impl NaiveDate {
 
     /// The same day of the month so many months later, cut to that month's last day; `None` exactly past the calendar's end.
     pub fn checked_add_months(self, months: u32) -> Option<NaiveDate>
-        ensures some { (y : ℤ) (m d : ℕ) → IsDateOf self y m d → IsSome result ↔ IsDay (months_on y m d (pos months)) }
-        ensures value { (y : ℤ) (m d : ℕ) → IsDateOf self y m d → IfSome result (λ date. date ≡ months_on y m d (pos months)) }
+        ensures some { (y : ℤ) (m d : ℕ) → IsDateOf self y m d
+            → IsSome result ↔ IsDay (months_on y m d (pos months)) }
+        ensures value { (y : ℤ) (m d : ℕ) → IsDateOf self y m d
+            → IfSome result (λ date. date ≡ months_on y m d (pos months)) }
     {
         self.moved_by_months(months as i64)
     }
@@ -89,8 +93,10 @@ impl NaiveDate {
     /// The same day of the month so many months earlier, cut to that month's last day; `None` exactly past the calendar's
     /// end.
     pub fn checked_sub_months(self, months: u32) -> Option<NaiveDate>
-        ensures some { (y : ℤ) (m d : ℕ) → IsDateOf self y m d → IsSome result ↔ IsDay (months_on y m d (neg_ℤ (pos months))) }
-        ensures value { (y : ℤ) (m d : ℕ) → IsDateOf self y m d → IfSome result (λ date. date ≡ months_on y m d (neg_ℤ (pos months))) }
+        ensures some { (y : ℤ) (m d : ℕ) → IsDateOf self y m d
+            → IsSome result ↔ IsDay (months_on y m d (neg_ℤ (pos months))) }
+        ensures value { (y : ℤ) (m d : ℕ) → IsDateOf self y m d
+            → IfSome result (λ date. date ≡ months_on y m d (neg_ℤ (pos months))) }
     {
         self.moved_by_months(-(months as i64))
     }

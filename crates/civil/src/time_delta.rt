@@ -45,7 +45,8 @@ impl TimeDelta {
     ///
     /// It is `None` exactly where the nanoseconds are 1,000,000,000 or more, or the range is left.
     pub fn new(secs: i64, nanos: u32) -> Option<TimeDelta>
-        ensures some { IsSome result ↔ (nanos < 1000000000) × IsDelta (second_nanos secs +ℤ pos nanos) }
+        ensures some { IsSome result
+            ↔ (nanos < 1000000000) × IsDelta (second_nanos secs +ℤ pos nanos) }
         ensures value { IfSome result (λ delta. delta ≡ second_nanos secs +ℤ pos nanos) }
     {
         if nanos >= 1_000_000_000 {

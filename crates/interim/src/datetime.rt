@@ -112,7 +112,8 @@ pub trait DateTime: Sized + Drop {
     /// A backend that knows this without asking the zone tells it, and the rest need not.
     fn zone_if_inside(&self) -> Option<Self::TimeZone>
         ensures zone { IfSome result (λ tz. tz ≡ Self.zone self.now) }
-        ensures inside { IsSome result → (wall : Wall) × IsWallAt (may_show (Self.zone self.now)) (moment self.now) wall
+        ensures inside { IsSome result
+            → (wall : Wall) × IsWallAt (may_show (Self.zone self.now)) (moment self.now) wall
             × IsTrue (is_within Self.Date.calendar wall.day) }
     {
         None

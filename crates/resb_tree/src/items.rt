@@ -42,7 +42,8 @@ fn items_of(
 ) -> Result<(Items<Resource>, usize), ResbError>
     requires { from + count ≤ items_end form reader.old }
     ensures same { reader.new ≡ reader.old }
-    ensures value { Gives (λ x. x) result (all_within (within reader.old levels) (run (item_in form reader.old) from count) limit) }
+    ensures value { Gives (λ x. x) result
+        (all_within (within reader.old levels) (run (item_in form reader.old) from count) limit) }
 {
     let body = reader.body();
     // each item weighs at least 1
@@ -69,7 +70,8 @@ fn array_of(
     limit: usize,
 ) -> Result<(Resource, usize), ResbError>
     ensures same { reader.new ≡ reader.old }
-    ensures value { Gives (λ x. x) result (array_within form (within reader.old levels) reader.old v limit) }
+    ensures value { Gives (λ x. x) result
+        (array_within form (within reader.old levels) reader.old v limit) }
 {
     let left = spend(limit, 1)?;
     if no_items(form, v) {
@@ -93,7 +95,9 @@ fn entries_of(
 ) -> Result<(Items<(Key, Resource)>, usize), ResbError>
     requires { EntriesLie form reader.old v count }
     ensures same { reader.new ≡ reader.old }
-    ensures value { Gives (λ x. x) result (entries_within (key_within reader.old) (within reader.old levels) (run (entry_in form reader.old v count) 0 count) limit) }
+    ensures value { Gives (λ x. x) result
+        (entries_within (key_within reader.old) (within reader.old levels)
+        (run (entry_in form reader.old v count) 0 count) limit) }
 {
     let body = reader.body();
     // each value weighs at least 1
@@ -121,7 +125,8 @@ fn table_of(
     limit: usize,
 ) -> Result<(Resource, usize), ResbError>
     ensures same { reader.new ≡ reader.old }
-    ensures value { Gives (λ x. x) result (table_within form (within reader.old levels) reader.old v limit) }
+    ensures value { Gives (λ x. x) result
+        (table_within form (within reader.old levels) reader.old v limit) }
 {
     let left = spend(limit, 1)?;
     if no_entries(form, v) {

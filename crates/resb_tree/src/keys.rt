@@ -19,7 +19,8 @@ const FEW: usize = 16;
 /// The place of the zero byte that ends the key at a place.
 #[tactic(auto, unfolding(crate::specs::Reading::key_stop))]
 fn key_stop(body: BodyWords<'_>, place: usize) -> Result<usize, ResbError>
-    ensures value { Gives (λ x. x) result (key_stop (byte_in body.entry.words.now) place (4 * body.entry.keys_end - place)) }
+    ensures value { Gives (λ x. x) result
+        (key_stop (byte_in body.entry.words.now) place (4 * body.entry.keys_end - place)) }
     ensures low { IfOk result (λ stop. place ≤ stop) }
     ensures high { IfOk result (λ stop. stop < 4 * body.entry.keys_end) }
 {

@@ -94,7 +94,8 @@ pub fn bytes_of(
 /// The place of the first zero unit of the 16-bit area from `v` on.
 #[tactic(auto, unfolding(crate::specs::Reading::zero_from))]
 fn zero_unit(body: BodyWords<'_>, v: usize) -> Result<usize, ResbError>
-    ensures value { Gives (λ x. x) result (zero_from (area_unit (told body.entry)) v (area_len (told body.entry) - v)) }
+    ensures value { Gives (λ x. x) result
+        (zero_from (area_unit (told body.entry)) v (area_len (told body.entry) - v)) }
     ensures low { IfOk result (λ stop. v ≤ stop) }
     ensures high { IfOk result (λ stop. stop < area_len (told body.entry)) }
 {

@@ -167,7 +167,8 @@ impl Resource {
     pub fn take_field(&mut self, key: &[u8]) -> Option<Resource>
         ensures value { result ≡ field_in key.now self.old }
         ensures rest { self.new ≡ without_field key.now self.old }
-        ensures others { (other : List ℕ) → bytes_eq other key.now ≡ false → field_in other self.new ≡ field_in other self.old }
+        ensures others { (other : List ℕ) → bytes_eq other key.now ≡ false
+            → field_in other self.new ≡ field_in other self.old }
     {
         take_value(self, key)
     }

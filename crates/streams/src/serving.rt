@@ -99,7 +99,8 @@ fn serve_piece<A: Answer, O: Sink>(
         (O.written output.old) (O.written output.new)) }
     ensures part { OnErr result (Gains (LeadsPartly (A.reply engine.now) start.old piece.now)
         (O.written output.old) (O.written output.new)) }
-    ensures fault { IsErrOf result ServeError.Fault → Rose (O.faults output.old) (O.faults output.new) }
+    ensures fault { IsErrOf result ServeError.Fault
+        → Rose (O.faults output.old) (O.faults output.new) }
     ensures later { O.faults output.old ≤ O.faults output.new }
 {
     replies.clear();
@@ -119,7 +120,8 @@ fn serve_last<A: Answer, O: Sink>(
         (O.written output.old) (O.written output.new)) }
     ensures part { OnErr result (Gains (LeadsPartlyToEnd (A.reply engine.now) start.now)
         (O.written output.old) (O.written output.new)) }
-    ensures fault { IsErrOf result ServeError.Fault → Rose (O.faults output.old) (O.faults output.new) }
+    ensures fault { IsErrOf result ServeError.Fault
+        → Rose (O.faults output.old) (O.faults output.new) }
     ensures later { O.faults output.old ≤ O.faults output.new }
 {
     if start.is_empty() {
@@ -146,8 +148,10 @@ pub fn serve<A: Answer, I: Source, O: Sink>(
         (O.written output.old) (O.written output.new) }
     ensures ends { EndsBy (served (I.left input.old)) result }
     ensures too_long { result ≡ Status.TooLong → TookMore (I.left input.old) 16777216 }
-    ensures read_fault { result ≡ Status.ReadFault → Rose (I.faults input.old) (I.faults input.new) }
-    ensures write_fault { result ≡ Status.WriteFault → Rose (O.faults output.old) (O.faults output.new) }
+    ensures read_fault { result ≡ Status.ReadFault
+        → Rose (I.faults input.old) (I.faults input.new) }
+    ensures write_fault { result ≡ Status.WriteFault
+        → Rose (O.faults output.old) (O.faults output.new) }
     ensures no_usage { result ≡ Status.Usage → ⊥ }
     ensures no_bundle { result ≡ Status.Bundle → ⊥ }
     ensures taken { TookAtMost (I.left input.old) (I.left input.new) 16777217 }

@@ -34,7 +34,8 @@ pub fn without_cr(line: &[u8]) -> &[u8]
 // The bytes as text; most are ASCII, which is told at once.
 #[inline(always)]
 fn text_of(bytes: &[u8]) -> Option<&str>
-    ensures { MatchOption result (IsUtf8 bytes.now → ⊥) (λ text. (text.now ≡ bytes.now) × IsUtf8 bytes.now) }
+    ensures { MatchOption result (IsUtf8 bytes.now → ⊥)
+        (λ text. (text.now ≡ bytes.now) × IsUtf8 bytes.now) }
 {
     if bytes.is_ascii() {
         return Some(unsafe { from_utf8_unchecked(bytes) });
@@ -45,7 +46,8 @@ fn text_of(bytes: &[u8]) -> Option<&str>
 // The parts before and after the first tab.
 #[inline(always)]
 fn cut(text: &str) -> Option<(&str, &str)>
-    ensures { MatchOption result (cut_of text.now ≡ None) (λ parts. cut_of text.now ≡ Some (parts.0.now, parts.1.now)) }
+    ensures { MatchOption result (cut_of text.now ≡ None)
+        (λ parts. cut_of text.now ≡ Some (parts.0.now, parts.1.now)) }
 {
     let at = memchr(b'\t', text.as_bytes())?;
     Some((&text[..at], &text[at + 1..]))
@@ -54,7 +56,8 @@ fn cut(text: &str) -> Option<(&str, &str)>
 // The number that 1 to 12 digits write before the first tab, and how many they are.
 #[inline(always)]
 fn number(bytes: &[u8]) -> Option<(u64, usize)>
-    ensures value { MatchOption result (number_cut bytes.now ≡ None) (λ read. number_cut bytes.now ≡ Some (read.0, read.1)) }
+    ensures value { MatchOption result (number_cut bytes.now ≡ None)
+        (λ read. number_cut bytes.now ≡ Some (read.0, read.1)) }
     ensures small { IfSome result (λ read. read.0 < 10 ^ 12) }
     ensures within { IfSome result (λ read. read.1 < length bytes.now) }
     ensures tab { IfSome result (λ read. slice_index bytes.now read.1 ≡ 9) }
@@ -75,7 +78,8 @@ fn number(bytes: &[u8]) -> Option<(u64, usize)>
 // A number before the first tab, perhaps with a minus sign, and what follows the tab.
 #[inline(never)]
 fn base(text: &str) -> Option<(i64, &str)>
-    ensures { MatchOption result (base_cut text.now ≡ None) (λ read. base_cut text.now ≡ Some (read.0, read.1.now)) }
+    ensures { MatchOption result (base_cut text.now ≡ None)
+        (λ read. base_cut text.now ≡ Some (read.0, read.1.now)) }
 {
     match text.as_bytes() {
         [b'-', digits @ ..] => {
@@ -92,7 +96,8 @@ fn base(text: &str) -> Option<(i64, &str)>
 // A dialect before the first tab, and what follows the tab.
 #[inline(always)]
 fn dialect(text: &str) -> Option<(Dialect, &str)>
-    ensures { MatchOption result (dialect_cut text.now ≡ None) (λ read. dialect_cut text.now ≡ Some (read.0, read.1.now)) }
+    ensures { MatchOption result (dialect_cut text.now ≡ None)
+        (λ read. dialect_cut text.now ≡ Some (read.0, read.1.now)) }
 {
     match text.as_bytes() {
         [b'u', b'k', b'\t', ..] => Some((Dialect::Uk, &text[3..])),

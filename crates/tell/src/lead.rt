@@ -21,7 +21,8 @@ const NANOS: u32 = 1_000_000_000;
 fn carried(second: i64, nanos: u32) -> (i64, u32)
     requires second { IsWallSecond second }
     requires nanos { nanos < 2000000000 }
-    ensures value { pos 1000000000 *ℤ result.0 +ℤ pos result.1 ≡ pos 1000000000 *ℤ second +ℤ pos nanos }
+    ensures value { pos 1000000000 *ℤ result.0 +ℤ pos result.1
+        ≡ pos 1000000000 *ℤ second +ℤ pos nanos }
     ensures fraction { result.1 < 1000000000 }
     ensures from { second ≤ℤ result.0 }
     ensures to { result.0 ≤ℤ (second +ℤ pos 1) }

@@ -23,7 +23,9 @@ const ROOM: usize = 96;
 
 // The answers to the lines, in the zones of the bundle.
 fn answers(alloc: Global, lines: u32) -> Result<MemSink, AllocError>
-    ensures { IfOk result (λ sink. IsReport (IsReply english (load_zones lines)) (lines_of (load_input lines)) sink.written) }
+    ensures { IfOk result
+        (λ sink. IsReport (IsReply english (load_zones lines))
+        (lines_of (load_input lines)) sink.written) }
 {
     let mut bundle = MemSource::new(bundle(alloc, lines)?, Vec::new(alloc));
     let mut input = MemSource::new(input(alloc, lines)?, Vec::new(alloc));
@@ -66,14 +68,16 @@ fn summed_up(alloc: Global, count: u32) -> Result<Vec<u8>, AllocError>
 pub fn load<O: Sink>(alloc: Global, count: u32, output: &mut O) -> Status
     ensures done { result ≡ Status.Done → (line : List ℕ) × IsLoadSummary count line
         × Appends (O.written output.old) (O.written output.new) line }
-    ensures stands { (gained : List ℕ) × Appends (O.written output.old) (O.written output.new) gained
+    ensures stands { (gained : List ℕ)
+        × Appends (O.written output.old) (O.written output.new) gained
         × IsGainedByLoad count result gained }
     ensures ends { EndsAs Status.Done result }
     ensures no_read_fault { result ≡ Status.ReadFault → ⊥ }
     ensures no_usage { result ≡ Status.Usage → ⊥ }
     ensures no_bundle { result ≡ Status.Bundle → ⊥ }
     ensures no_too_long { result ≡ Status.TooLong → ⊥ }
-    ensures write_fault { result ≡ Status.WriteFault → Rose (O.faults output.old) (O.faults output.new) }
+    ensures write_fault { result ≡ Status.WriteFault
+        → Rose (O.faults output.old) (O.faults output.new) }
 {
     let Ok(line) = summed_up(alloc, count) else {
         return Status::Memory;

@@ -82,7 +82,8 @@ impl<Tz: Civil> Located<Tz> {
 
     /// The zone's seconds east of UTC there.
     pub fn seconds_east(&self) -> i32
-        ensures value { Tz.sound (zone_in self.now) → result ≡ Tz.off (zone_in self.now) (second_in self.now) }
+        ensures value { Tz.sound (zone_in self.now)
+            → result ≡ Tz.off (zone_in self.now) (second_in self.now) }
         ensures range { IsOffset result }
     {
         match self.east {

@@ -56,7 +56,8 @@ fn base_in<Tz: Civil>(zone: &Tz, base: i64) -> Located<Tz>
 fn resolved<Tz: Civil>(zone: &Tz, base: i64, phrase: &str, dialect: Dialect) -> DateResult<Moment>
     requires base { IsBase base }
     requires small { Tz.sound zone.now → IsOffset (Tz.off zone.now base) }
-    ensures said { Tz.sound zone.now → AnswersPhrase false moment_view (parts_of dialect (phrase_tokens phrase.now))
+    ensures said { Tz.sound zone.now
+        → AnswersPhrase false moment_view (parts_of dialect (phrase_tokens phrase.now))
         (MeansIn (Tz.off zone.now) civil_days civil_seconds (base, 0) dialect) result }
     ensures offset { Tz.sound zone.now → IfOk result (λ m. m.offset ≡ Tz.off zone.now m.second) }
     ensures inside { IfOk result IsInCalendar }

@@ -97,7 +97,8 @@ fn push_moment(
 
 // Appends the law that a zone breaks.
 fn push_unlawful(out: &mut String, fault: ZoneFault) -> Result<(), AllocError>
-    ensures { OnOk result (string_bytes out.new ≡ string_bytes out.old ++ reply_text (Unlawful fault)) }
+    ensures { OnOk result
+        (string_bytes out.new ≡ string_bytes out.old ++ reply_text (Unlawful fault)) }
 {
     out.push_str("! unlawful zone ")?;
     push_count(out, u64::from(fault.number()))?;

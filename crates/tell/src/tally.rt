@@ -26,9 +26,12 @@ fn is_refusal(answer: &[u8]) -> bool
 fn with<'a>(tally: Tally<'a>, answer: &'a [u8]) -> Tally<'a>
     requires moments { tally.moments + 1 < 2 ^ 64 }
     requires refusals { tally.refusals + 1 < 2 ^ 64 }
-    ensures moments { result.moments ≡ (if is_refusal answer.now then tally.entry.moments else tally.entry.moments + 1) }
-    ensures refusals { result.refusals ≡ (if is_refusal answer.now then tally.entry.refusals + 1 else tally.entry.refusals) }
-    ensures last { result.last.now ≡ (if is_refusal answer.now then tally.entry.last.now else answer.now) }
+    ensures moments { result.moments
+        ≡ (if is_refusal answer.now then tally.entry.moments else tally.entry.moments + 1) }
+    ensures refusals { result.refusals
+        ≡ (if is_refusal answer.now then tally.entry.refusals + 1 else tally.entry.refusals) }
+    ensures last { result.last.now
+        ≡ (if is_refusal answer.now then tally.entry.last.now else answer.now) }
 {
     let mut more = tally;
     if is_refusal(answer) {

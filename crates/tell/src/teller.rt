@@ -43,7 +43,9 @@ impl Teller {
 
     /// Appends the words of a distance.
     pub fn push_told(&self, out: &mut String, lead: Lead) -> Result<(), AllocError>
-        ensures { OnOk result (Adds (IsToldBy (voice_for (voices_of (any_speech self.now)) lead.ahead) (as_nanos lead.distance))
+        ensures { OnOk result
+            (Adds (IsToldBy (voice_for (voices_of (any_speech self.now)) lead.ahead)
+            (as_nanos lead.distance))
             (string_bytes out.old) (string_bytes out.new)) }
     {
         if lead.ahead {

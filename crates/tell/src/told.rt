@@ -83,7 +83,8 @@ fn words<L: Language>(
     past: &Formatter<L>,
     ahead: &Formatter<L>,
 ) -> Result<String, AllocError>
-    ensures { IfOk result (λ text. IsToldBy (voice_for (voices_by L.speech past.now ahead.now) lead.ahead)
+    ensures { IfOk result
+        (λ text. IsToldBy (voice_for (voices_by L.speech past.now ahead.now) lead.ahead)
         (as_nanos lead.distance) (string_bytes text)) }
 {
     if lead.ahead {
@@ -95,7 +96,8 @@ fn words<L: Language>(
 
 // The offset of a zone with its verdict at a second, where the zone is lawful.
 fn offset_there(zone: Option<Result<Zone<'_>, ZoneFault>>, second: i64) -> Offset
-    ensures { (zones : List NamedZone) (name : List ℕ) (z : PlainZone) → IsChecked zones name zone.entry
+    ensures { (zones : List NamedZone) (name : List ℕ) (z : PlainZone)
+        → IsChecked zones name zone.entry
         → named zones name ≡ Some z → IsLawful z → result ≡ offset_at z second }
 {
     one_verdict();
@@ -107,7 +109,8 @@ fn offset_there(zone: Option<Result<Zone<'_>, ZoneFault>>, second: i64) -> Offse
 
 // A moment with its zone's offset there and the words of its distance.
 fn with_words(moment: Moment, offset: Offset, ahead: bool, text: String) -> Told
-    ensures { tale_of result ≡ record { seconds = moment.second; micros = moment.nanos / 1000; offset = offset; ahead = ahead; text = string_bytes text } }
+    ensures { tale_of result ≡ record { seconds = moment.second; micros = moment.nanos / 1000;
+        offset = offset; ahead = ahead; text = string_bytes text } }
 {
     let Moment {
         second: seconds,

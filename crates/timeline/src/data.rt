@@ -136,7 +136,8 @@ impl ZoneData {
     /// The second of the nth transition of the table, counted from 0. Takes one step.
     pub fn second_at<L: Ledger>(&self, n: usize, steps: &mut Steps<L>) -> i64
         requires { n < length self.now.table }
-        ensures value { option_map (λ (e : Entry). e.since) (slice_get self.now.table n) ≡ Some result }
+        ensures value { option_map (λ (e : Entry). e.since) (slice_get self.now.table n)
+            ≡ Some result }
         ensures ticks { steps.new ≡ steps.old + 1 }
     {
         self.seconds.second_at(n, steps)
@@ -240,7 +241,8 @@ impl ZoneData {
         seconds_since_epoch: i64,
         require_offset_change: bool,
     ) -> Option<Transition>
-        ensures { IsLawful self.now → AnswersNext self.now seconds_since_epoch require_offset_change result }
+        ensures { IsLawful self.now
+            → AnswersNext self.now seconds_since_epoch require_offset_change result }
     {
         transitions::next_transition(self, seconds_since_epoch, require_offset_change)
     }

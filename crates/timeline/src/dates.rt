@@ -88,7 +88,8 @@ fn month_place(month: u32, kind: u8) -> u32
 /// The weekday so many days after 1 January of a year of this kind, with Monday 0.
 fn weekday_at(place: u32, kind: u8) -> u32
     requires { place < 1000 }
-    ensures value { (y : ℤ) → year_kind y ≡ kind → weekday_of (year_start y +ℤ pos place) ≡ pos result }
+    ensures value { (y : ℤ) → year_kind y ≡ kind
+        → weekday_of (year_start y +ℤ pos place) ≡ pos result }
     ensures few { result < 7 }
 {
     (kind as u32 % 7 + place) % 7
@@ -98,7 +99,8 @@ fn weekday_at(place: u32, kind: u8) -> u32
 fn first_from(weekday: u32, from: u32, kind: u8) -> u32
     requires weekday { weekday < 7 }
     requires from { from < 1000 }
-    ensures value { (y : ℤ) → year_kind y ≡ kind → first_on 6 (pos weekday) (year_start y +ℤ pos from) ≡ year_start y +ℤ pos result }
+    ensures value { (y : ℤ) → year_kind y ≡ kind
+        → first_on 6 (pos weekday) (year_start y +ℤ pos from) ≡ year_start y +ℤ pos result }
     ensures near { result ≤ from + 6 }
 {
     from + (weekday + 7 - weekday_at(from, kind)) % 7
@@ -108,7 +110,8 @@ fn first_from(weekday: u32, from: u32, kind: u8) -> u32
 fn last_to(weekday: u32, to: u32, kind: u8) -> i32
     requires weekday { weekday < 7 }
     requires to { to < 1000 }
-    ensures value { (y : ℤ) → year_kind y ≡ kind → last_on 6 (pos weekday) (year_start y +ℤ pos to) ≡ year_start y +ℤ result }
+    ensures value { (y : ℤ) → year_kind y ≡ kind
+        → last_on 6 (pos weekday) (year_start y +ℤ pos to) ≡ year_start y +ℤ result }
     ensures low { negsuc 5 ≤ℤ result }
     ensures high { result ≤ℤ pos to }
 {
@@ -121,7 +124,8 @@ fn place(month: u32, day: i32, code: i32, kind: u8) -> i16
     requires some_day { 1 ≤ unsigned_abs day }
     requires last_day { unsigned_abs day ≤ 31 }
     requires kind { kind < 14 }
-    ensures { (r : DateRule) → r.month ≡ month → r.day ≡ day → r.code ≡ code → result ≡ place_in_kind r kind }
+    ensures { (r : DateRule) → r.month ≡ month → r.day ≡ day → r.code ≡ code
+        → result ≡ place_in_kind r kind }
 {
     let first = month_place(month, kind);
     let anchor = first + day.unsigned_abs() - 1;
@@ -152,7 +156,8 @@ fn places(date: RuleDate) -> [i16; 14]
 impl RuleDate {
     /// A date of these four numbers, with what its seconds are counted by.
     pub fn new(month: u32, day: i32, code: i32, seconds: u32, mode: TimeMode) -> RuleDate
-        ensures { plain_date result ≡ record { month = month; day = day; code = code; seconds = seconds; mode = mode_number mode } }
+        ensures { plain_date result ≡ record { month = month; day = day; code = code;
+            seconds = seconds; mode = mode_number mode } }
     {
         RuleDate {
             month,
@@ -178,14 +183,18 @@ impl RuleDate {
 impl RuleDates {
     /// The dates of a rule, with the extra offset that its start adds.
     pub fn new(start: RuleDate, end: RuleDate, extra: i32) -> RuleDates
-        ensures { raw_of result ≡ record { start = plain_date start; end = plain_date end; extra = extra } }
+        ensures { raw_of result
+            ≡ record { start = plain_date start; end = plain_date end; extra = extra } }
     {
         RuleDates { start, end, extra }
     }
 
     /// Whether two rules have the same numbers.
     fn is_same(&self, other: &RuleDates) -> bool
-        ensures { result ≡ (same_date (plain_date self.now.start) (plain_date other.now.start) && same_date (plain_date self.now.end) (plain_date other.now.end) && int_eq self.now.extra other.now.extra) }
+        ensures { result
+            ≡ (same_date (plain_date self.now.start) (plain_date other.now.start)
+            && same_date (plain_date self.now.end) (plain_date other.now.end)
+            && int_eq self.now.extra other.now.extra) }
     {
         self.start.is_same(&other.start)
             && self.end.is_same(&other.end)
@@ -209,7 +218,8 @@ impl PlacedDates {
 
 /// Whether the start is a year's first transition.
 fn start_is_first(dates: &RuleDates) -> bool
-    ensures { (raw first_year : ℤ) → result ≡ start_is_first (plain_rule (raw_of dates.now) raw first_year) }
+    ensures { (raw first_year : ℤ)
+        → result ≡ start_is_first (plain_rule (raw_of dates.now) raw first_year) }
 {
     if dates.start.month == dates.end.month {
         dates.start.day.unsigned_abs() <= dates.end.day.unsigned_abs()
@@ -232,7 +242,9 @@ impl ZoneRule {
     pub fn from_dates(placed: &PlacedDates, raw: i32, first_year: i32) -> Option<ZoneRule>
         requires low { negsuc 134217727 ≤ℤ first_year }
         requires high { first_year ≤ℤ pos 134217727 }
-        ensures { result ≡ (if fits_i32 (raw +ℤ placed.now.extra) then Some (plain_rule placed.now raw first_year) else None) }
+        ensures { result
+            ≡ (if fits_i32 (raw +ℤ placed.now.extra)
+            then Some (plain_rule placed.now raw first_year) else None) }
     {
         let dates = placed.dates;
         raw.checked_add(dates.extra)?;

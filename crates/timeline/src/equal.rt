@@ -48,7 +48,9 @@ fn same_pairs(a: &[(i32, i32)], b: &[(i32, i32)]) -> bool
 
 /// Whether both zones have no rule, or the same.
 fn same_rules(a: Option<&ZoneRule>, b: Option<&ZoneRule>) -> bool
-    ensures { result ≡ option_eq same_rule (option_map (λ (r : Bor PlainRule). r.now) a.entry) (option_map (λ (r : Bor PlainRule). r.now) b.entry) }
+    ensures { result
+        ≡ option_eq same_rule (option_map (λ (r : Bor PlainRule). r.now) a.entry)
+        (option_map (λ (r : Bor PlainRule). r.now) b.entry) }
 {
     match (a, b) {
         (None, None) => true,

@@ -75,7 +75,8 @@ fn year_from<L: Ledger>(
     requires name { blank.name ≡ L.name }
     requires parts { blank.parts ≡ L.parts }
     requires some { 0 < L.parts }
-    ensures before { (r : PlainRule) → rule.now ≡ kept_rule r → result.0 ≡ offset_of (second_entry r year) }
+    ensures before { (r : PlainRule) → rule.now ≡ kept_rule r
+        → result.0 ≡ offset_of (second_entry r year) }
     ensures first { (r : PlainRule) → rule.now ≡ kept_rule r → result.1 ≡ first_entry r year }
     ensures second { (r : PlainRule) → rule.now ≡ kept_rule r → result.2 ≡ second_entry r year }
 {
@@ -245,7 +246,9 @@ fn next_answer<L: Ledger>(
     steps: &mut Steps<L>,
 ) -> PossibleOffset
     requires { number ≤ length zone.now.table }
-    ensures { result ≡ answer_from wall (before_entry zone.now number) (slice_range zone.now.table number (min (length zone.now.table) (number + 1))) }
+    ensures { result
+        ≡ answer_from wall (before_entry zone.now number)
+        (slice_range zone.now.table number (min (length zone.now.table) (number + 1))) }
 {
     let before = before_entry(zone, number);
     if number == zone.len() {
@@ -263,7 +266,9 @@ fn answer_around<L: Ledger>(
     steps: &mut Steps<L>,
 ) -> PossibleOffset
     requires { number ≤ length zone.now.table }
-    ensures { result ≡ answer_from wall (before_entry zone.now (number - 1)) (slice_range zone.now.table (number - 1) (min (length zone.now.table) (number + 1))) }
+    ensures { result
+        ≡ answer_from wall (before_entry zone.now (number - 1))
+        (slice_range zone.now.table (number - 1) (min (length zone.now.table) (number + 1))) }
 {
     if number == 0 {
         return next_answer(zone, wall, number, steps);

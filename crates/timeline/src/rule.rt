@@ -173,8 +173,10 @@ impl YearRule {
         start_is_first: bool,
         first_year: i32,
     ) -> YearRule
-        requires { IsKept (record { start = start; end = end; extra = extra; raw = raw; start_is_first = start_is_first; first_year = first_year }) }
-        ensures { result ≡ record { start = start; end = end; extra = extra; raw = raw; start_is_first = start_is_first; first_year = first_year } }
+        requires { IsKept (record { start = start; end = end; extra = extra; raw = raw;
+            start_is_first = start_is_first; first_year = first_year }) }
+        ensures { result ≡ record { start = start; end = end; extra = extra; raw = raw;
+            start_is_first = start_is_first; first_year = first_year } }
     {
         YearRule {
             start,
@@ -236,7 +238,8 @@ impl YearRule {
         steps: &mut Steps<L>,
     ) -> (Offset, Transition, Transition)
         requires { year <ℤ pos 2147483647 }
-        ensures before { (r : PlainRule) → self.now ≡ kept_rule r → result.0 ≡ offset_of (second_entry r year) }
+        ensures before { (r : PlainRule) → self.now ≡ kept_rule r
+            → result.0 ≡ offset_of (second_entry r year) }
         ensures first { (r : PlainRule) → self.now ≡ kept_rule r → result.1 ≡ first_entry r year }
         ensures second { (r : PlainRule) → self.now ≡ kept_rule r → result.2 ≡ second_entry r year }
         ensures ticks { steps.new ≡ steps.old + 1 }

@@ -220,7 +220,8 @@ fn is_up_to(exact: bool, second: i64, since: i64) -> bool
 fn exact_place<L: Ledger>(zone: &ZoneData, second: i64, place: usize, steps: &mut Steps<L>) -> usize
     requires { place ≤ length zone.now.table }
     ensures within { result ≤ length zone.now.table }
-    ensures cut { KeepsOrder zone.now → IsTableCut zone.now false second place → IsTableCut zone.now true second result }
+    ensures cut { KeepsOrder zone.now → IsTableCut zone.now false second place
+        → IsTableCut zone.now true second result }
 {
     if place == 0 {
         return 0;

@@ -57,7 +57,8 @@ impl Entries {
 
     /// Adds an entry at the end.
     pub fn add(&mut self, key: &str, value: Resource) -> Result<(), AllocError>
-        ensures { IfOk result (λ _. self.new.entries.items ≡ self.old.entries.items ++ (key.now, value) ∷ []) }
+        ensures { IfOk result
+            (λ _. self.new.entries.items ≡ self.old.entries.items ++ (key.now, value) ∷ []) }
     {
         let key = Key::from_slice(self.alloc, key.as_bytes())?;
         self.entries.push((key, value))?;
@@ -104,7 +105,8 @@ pub fn add_rule(
     raw: i32,
     year: i32,
 ) -> Result<(), AllocError>
-    requires { negsuc 134217727 ≤ℤ raw × raw ≤ℤ pos 134217727 × negsuc 134217727 ≤ℤ year × year ≤ℤ pos 134217727 }
+    requires { negsuc 134217727 ≤ℤ raw × raw ≤ℤ pos 134217727 × negsuc 134217727 ≤ℤ year
+        × year ≤ℤ pos 134217727 }
 {
     zone.add("finalRule", text(alloc, rule)?)?;
     zone.add("finalRaw", integer(raw))?;

@@ -242,7 +242,8 @@ fn keeps_table_and_rule_apart(rt: HostRuntime) -> Result<(), Fail> {
 
 /// A zone with that standard offset and a rule from a year on.
 fn ruled(alloc: Global, raw: i32, rule: &[i32], year: i32) -> Result<ZoneInfo64, Fail>
-    requires { negsuc 134217727 ≤ℤ raw × raw ≤ℤ pos 134217727 × negsuc 134217727 ≤ℤ year × year ≤ℤ pos 134217727 }
+    requires { negsuc 134217727 ≤ℤ raw × raw ≤ℤ pos 134217727 × negsuc 134217727 ≤ℤ year
+        × year ≤ℤ pos 134217727 }
 {
     let mut zone = fields(alloc, &[raw, 0])?;
     add_rule(alloc, &mut zone, "Rule", raw, year)?;

@@ -97,7 +97,9 @@ impl<Tz: TimeZone> Date<Tz> {
     pub fn with_timezone<Tz2: TimeZone>(&self, tz: &Tz2) -> Date<Tz2>
         ensures day { day_number result ≡ day_number self.now }
         ensures zone { Tz2.zone_of (date_offset result) ≡ tz.now }
-        ensures offset { Tz2.sound tz.now → Tz2.Offset.seconds (date_offset result) ≡ Tz2.off tz.now (pos 86400 *ℤ day_number result) }
+        ensures offset { Tz2.sound tz.now
+            → Tz2.Offset.seconds (date_offset result)
+            ≡ Tz2.off tz.now (pos 86400 *ℤ day_number result) }
     {
         tz.from_utc_date(&self.date)
     }
@@ -106,7 +108,8 @@ impl<Tz: TimeZone> Date<Tz> {
     /// end of the calendar. 2000-01-01 and 5 days and 23 hours are 2000-01-06.
     pub fn checked_add_signed(self, rhs: TimeDelta) -> Option<Date<Tz>>
         ensures some { IsSome result ↔ IsDay (day_number self +ℤ int_div rhs (pos 86400000000000)) }
-        ensures day { IfSome result (λ d. day_number d ≡ day_number self +ℤ int_div rhs (pos 86400000000000)) }
+        ensures day { IfSome result
+            (λ d. day_number d ≡ day_number self +ℤ int_div rhs (pos 86400000000000)) }
         ensures offset { IfSome result (λ d. date_offset d ≡ date_offset self) }
     {
         let date = self.date.checked_add_signed(rhs)?;
@@ -117,7 +120,8 @@ impl<Tz: TimeZone> Date<Tz> {
     /// an end of the calendar.
     pub fn checked_sub_signed(self, rhs: TimeDelta) -> Option<Date<Tz>>
         ensures some { IsSome result ↔ IsDay (day_number self -ℤ int_div rhs (pos 86400000000000)) }
-        ensures day { IfSome result (λ d. day_number d ≡ day_number self -ℤ int_div rhs (pos 86400000000000)) }
+        ensures day { IfSome result
+            (λ d. day_number d ≡ day_number self -ℤ int_div rhs (pos 86400000000000)) }
         ensures offset { IfSome result (λ d. date_offset d ≡ date_offset self) }
     {
         let date = self.date.checked_sub_signed(rhs)?;
@@ -149,8 +153,12 @@ impl<Tz: TimeZone> Date<Tz> {
     /// The whole years since another day, as of [`NaiveDate`]; `None` exactly where they are below 0. From 2000-01-01 to
     /// 2000-01-02 there are 0, and the other way `None`.
     pub fn years_since(&self, base: Date<Tz>) -> Option<u32>
-        ensures some { (y : ℤ) (m d : ℕ) (y' : ℤ) (m' d' : ℕ) → IsDateOf (day_number self.now) y m d → IsDateOf (day_number base) y' m' d' → IsSome result ↔ pos 0 ≤ℤ years_between y m d y' m' d' }
-        ensures value { (y : ℤ) (m d : ℕ) (y' : ℤ) (m' d' : ℕ) → IsDateOf (day_number self.now) y m d → IsDateOf (day_number base) y' m' d' → IfSome result (λ years. pos years ≡ years_between y m d y' m' d') }
+        ensures some { (y : ℤ) (m d : ℕ) (y' : ℤ) (m' d' : ℕ)
+            → IsDateOf (day_number self.now) y m d → IsDateOf (day_number base) y' m' d'
+            → IsSome result ↔ pos 0 ≤ℤ years_between y m d y' m' d' }
+        ensures value { (y : ℤ) (m d : ℕ) (y' : ℤ) (m' d' : ℕ)
+            → IsDateOf (day_number self.now) y m d → IsDateOf (day_number base) y' m' d'
+            → IfSome result (λ years. pos years ≡ years_between y m d y' m' d') }
     {
         self.date.years_since(base.date)
     }

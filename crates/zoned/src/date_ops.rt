@@ -85,10 +85,18 @@ impl<Tz: TimeZone> Date<Tz> {
 
     // The day in this day's zone, where the zone has one offset at its midnight.
     fn on_day(&self, date: NaiveDate) -> Option<Date<Tz>>
-        ensures single { Tz.sound (Tz.zone_of (date_offset self.now)) → IsSome result ↔ IsTrue (is_single (Tz.local (Tz.zone_of (date_offset self.now)) (pos 86400 *ℤ date))) }
+        ensures single { Tz.sound (Tz.zone_of (date_offset self.now))
+            → IsSome result
+            ↔ IsTrue
+            (is_single (Tz.local (Tz.zone_of (date_offset self.now)) (pos 86400 *ℤ date))) }
         ensures day { IfSome result (λ d. day_number d ≡ date) }
-        ensures offset { let zone = Tz.zone_of (date_offset self.now) in Tz.sound zone → IfSome result (λ d. Tz.local zone (pos 86400 *ℤ day_number d) ≡ Mapped.Single (Tz.Offset.seconds (date_offset d))) }
-        ensures zone { IfSome result (λ d. Tz.zone_of (date_offset d) ≡ Tz.zone_of (date_offset self.now)) }
+        ensures offset { let zone = Tz.zone_of (date_offset self.now) in
+            Tz.sound zone
+            → IfSome result
+            (λ d. Tz.local zone (pos 86400 *ℤ day_number d)
+            ≡ Mapped.Single (Tz.Offset.seconds (date_offset d))) }
+        ensures zone { IfSome result
+            (λ d. Tz.zone_of (date_offset d) ≡ Tz.zone_of (date_offset self.now)) }
     {
         self.timezone().from_local_date(&date).single()
     }

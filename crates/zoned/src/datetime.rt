@@ -97,7 +97,8 @@ impl<Tz: TimeZone> DateTime<Tz> {
     /// The wall time, which has to be in the calendar.
     pub fn naive_local(&self) -> NaiveDateTime
         requires { IsWallSecond (second_of self.now +ℤ Tz.Offset.seconds (offset_of self.now)) }
-        ensures wall { wall_of result ≡ second_of self.now +ℤ Tz.Offset.seconds (offset_of self.now) }
+        ensures wall { wall_of result
+            ≡ second_of self.now +ℤ Tz.Offset.seconds (offset_of self.now) }
         ensures nanos { nanos_of result ≡ fraction_of self.now }
     {
         let seconds = self.offset.fix().local_minus_utc();
@@ -123,7 +124,8 @@ impl<Tz: TimeZone> DateTime<Tz> {
         ensures second { second_of result ≡ second_of self.now }
         ensures fraction { fraction_of result ≡ fraction_of self.now }
         ensures zone { Tz2.zone_of (offset_of result) ≡ tz.now }
-        ensures offset { Tz2.sound tz.now → Tz2.Offset.seconds (offset_of result) ≡ Tz2.off tz.now (second_of result) }
+        ensures offset { Tz2.sound tz.now
+            → Tz2.Offset.seconds (offset_of result) ≡ Tz2.off tz.now (second_of result) }
     {
         tz.from_utc_datetime(&self.datetime)
     }
@@ -133,11 +135,15 @@ impl<Tz: TimeZone> DateTime<Tz> {
     ///
     /// Nanoseconds of 1,000,000,000 and more count at their value: a leap second is the second after it.
     pub fn checked_add_signed(self, rhs: TimeDelta) -> Option<DateTime<Tz>>
-        ensures some { IsSome result ↔ IsWallSecond (int_div_euclid (nanos_since_epoch self +ℤ rhs) (pos 1000000000)) }
+        ensures some { IsSome result
+            ↔ IsWallSecond (int_div_euclid (nanos_since_epoch self +ℤ rhs) (pos 1000000000)) }
         ensures moved { IfSome result (λ d. nanos_since_epoch d ≡ nanos_since_epoch self +ℤ rhs) }
         ensures fraction { IfSome result (λ d. fraction_of d < 1000000000) }
         ensures zone { IfSome result (λ d. Tz.zone_of (offset_of d) ≡ Tz.zone_of (offset_of self)) }
-        ensures offset { Tz.sound (Tz.zone_of (offset_of self)) → IfSome result (λ d. Tz.Offset.seconds (offset_of d) ≡ Tz.off (Tz.zone_of (offset_of self)) (second_of d)) }
+        ensures offset { Tz.sound (Tz.zone_of (offset_of self))
+            → IfSome result
+            (λ d. Tz.Offset.seconds (offset_of d)
+            ≡ Tz.off (Tz.zone_of (offset_of self)) (second_of d)) }
     {
         let seconds = self.timestamp() + rhs.num_seconds();
         let nanos = self.timestamp_subsec_nanos() as i64 + rhs.subsec_nanos() as i64;

@@ -112,29 +112,35 @@ pub trait TimeZone: Copy {
     /// The offsets at midnight of a day.
     fn offset_from_local_date(&self, day: &NaiveDate) -> MappedLocalTime<Self::Offset>
         ensures zone { AllMapped (λ o. zone_of o ≡ self.now) result }
-        ensures value { sound self.now → mapped_map Self.Offset.seconds result ≡ Self.local self.now (pos 86400 *ℤ day.now) };
+        ensures value { sound self.now
+            → mapped_map Self.Offset.seconds result ≡ Self.local self.now (pos 86400 *ℤ day.now) };
 
     /// The offsets of a wall time.
     fn offset_from_local_datetime(&self, wall: &NaiveDateTime) -> MappedLocalTime<Self::Offset>
         ensures zone { AllMapped (λ o. zone_of o ≡ self.now) result }
-        ensures value { sound self.now → mapped_map Self.Offset.seconds result ≡ Self.local self.now (wall_of wall.now) };
+        ensures value { sound self.now
+            → mapped_map Self.Offset.seconds result ≡ Self.local self.now (wall_of wall.now) };
 
     /// The offset at midnight of a day in UTC.
     fn offset_from_utc_date(&self, utc: &NaiveDate) -> Self::Offset
         ensures zone { zone_of result ≡ self.now }
-        ensures value { sound self.now → Self.Offset.seconds result ≡ off self.now (pos 86400 *ℤ utc.now) };
+        ensures value { sound self.now
+            → Self.Offset.seconds result ≡ off self.now (pos 86400 *ℤ utc.now) };
 
     /// The offset at a time in UTC.
     fn offset_from_utc_datetime(&self, utc: &NaiveDateTime) -> Self::Offset
         ensures zone { zone_of result ≡ self.now }
-        ensures value { sound self.now → Self.Offset.seconds result ≡ off self.now (wall_of utc.now) };
+        ensures value { sound self.now
+            → Self.Offset.seconds result ≡ off self.now (wall_of utc.now) };
 
     /// The day with each offset that the zone has at its midnight: none where the clock is put forward over midnight, and an
     /// earlier and a later one where it is put back over it. `Utc` has 2000-01-01 once.
     final fn from_local_date(&self, day: &NaiveDate) -> MappedLocalTime<Date<Self>>
         ensures days { AllMapped (λ d. day_number d ≡ day.now) result }
         ensures zone { AllMapped (λ d. zone_of (date_offset d) ≡ self.now) result }
-        ensures offsets { sound self.now → mapped_map (λ d. Self.Offset.seconds (date_offset d)) result ≡ Self.local self.now (pos 86400 *ℤ day.now) }
+        ensures offsets { sound self.now
+            → mapped_map (λ d. Self.Offset.seconds (date_offset d)) result
+            ≡ Self.local self.now (pos 86400 *ℤ day.now) }
     {
         days::<Self>(day, self.offset_from_local_date(day))
     }
@@ -143,7 +149,8 @@ pub trait TimeZone: Copy {
     final fn from_utc_date(&self, utc: &NaiveDate) -> Date<Self>
         ensures day { day_number result ≡ utc.now }
         ensures zone { zone_of (date_offset result) ≡ self.now }
-        ensures offset { sound self.now → Self.Offset.seconds (date_offset result) ≡ off self.now (pos 86400 *ℤ utc.now) }
+        ensures offset { sound self.now
+            → Self.Offset.seconds (date_offset result) ≡ off self.now (pos 86400 *ℤ utc.now) }
     {
         Date::from_utc(*utc, self.offset_from_utc_date(utc))
     }
@@ -152,8 +159,11 @@ pub trait TimeZone: Copy {
     final fn from_local_datetime(&self, wall: &NaiveDateTime) -> MappedLocalTime<DateTime<Self>>
         ensures zone { AllMapped (λ d. zone_of (offset_of d) ≡ self.now) result }
         ensures fraction { AllMapped (λ d. fraction_of d ≡ nanos_of wall.now) result }
-        ensures offsets { AllMapped (λ d. Self.Offset.seconds (offset_of d) ≡ wall_of wall.now -ℤ second_of d) result }
-        ensures moments { sound self.now → AreMoments (wall_of wall.now) (Self.local self.now (wall_of wall.now)) (mapped_map second_of result) }
+        ensures offsets { AllMapped
+            (λ d. Self.Offset.seconds (offset_of d) ≡ wall_of wall.now -ℤ second_of d) result }
+        ensures moments { sound self.now
+            → AreMoments (wall_of wall.now) (Self.local self.now (wall_of wall.now))
+            (mapped_map second_of result) }
     {
         moments::<Self>(wall, self.offset_from_local_datetime(wall))
     }
@@ -163,7 +173,8 @@ pub trait TimeZone: Copy {
         ensures second { second_of result ≡ wall_of utc.now }
         ensures fraction { fraction_of result ≡ nanos_of utc.now }
         ensures zone { zone_of (offset_of result) ≡ self.now }
-        ensures offset { sound self.now → Self.Offset.seconds (offset_of result) ≡ off self.now (second_of result) }
+        ensures offset { sound self.now
+            → Self.Offset.seconds (offset_of result) ≡ off self.now (second_of result) }
     {
         DateTime::from_naive_utc_and_offset(*utc, self.offset_from_utc_datetime(utc))
     }
@@ -176,6 +187,10 @@ pub trait Civil: TimeZone {
     /// The offsets of a wall time.
     fn civil(&self, wall: &NaiveDateTime) -> CivilOffset<Self::Offset>
         ensures zone { AllCivil (λ o. Self.zone_of o ≡ self.now) result }
-        ensures counts { Self.sound self.now → IsCivil (Self.off self.now) (wall_of wall.now) (civil_map Self.Offset.seconds result) }
-        ensures local { Self.sound self.now → Self.local self.now (wall_of wall.now) ≡ mapped_of (civil_map Self.Offset.seconds result) };
+        ensures counts { Self.sound self.now
+            → IsCivil (Self.off self.now) (wall_of wall.now)
+            (civil_map Self.Offset.seconds result) }
+        ensures local { Self.sound self.now
+            → Self.local self.now (wall_of wall.now)
+            ≡ mapped_of (civil_map Self.Offset.seconds result) };
 }

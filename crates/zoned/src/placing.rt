@@ -15,7 +15,8 @@ use civil::{NaiveDate, NaiveDateTime};
 // The moment that a wall time is at an offset.
 fn moment_at<Tz: TimeZone>(wall: &NaiveDateTime, offset: Tz::Offset) -> Option<DateTime<Tz>>
     ensures some { IsSome result ↔ IsWallSecond (wall_of wall.now -ℤ Tz.Offset.seconds offset) }
-    ensures second { IfSome result (λ d. second_of d ≡ wall_of wall.now -ℤ Tz.Offset.seconds offset) }
+    ensures second { IfSome result
+        (λ d. second_of d ≡ wall_of wall.now -ℤ Tz.Offset.seconds offset) }
     ensures fraction { IfSome result (λ d. fraction_of d ≡ nanos_of wall.now) }
     ensures offset { IfSome result (λ d. offset_of d ≡ offset) }
 {
@@ -28,10 +29,13 @@ pub(crate) fn moments<Tz: TimeZone>(
     wall: &NaiveDateTime,
     offsets: MappedLocalTime<Tz::Offset>,
 ) -> MappedLocalTime<DateTime<Tz>>
-    ensures moments { AreMoments (wall_of wall.now) (mapped_map Tz.Offset.seconds offsets) (mapped_map second_of result) }
+    ensures moments { AreMoments (wall_of wall.now) (mapped_map Tz.Offset.seconds offsets)
+        (mapped_map second_of result) }
     ensures fraction { AllMapped (λ d. fraction_of d ≡ nanos_of wall.now) result }
-    ensures offsets { AllMapped (λ d. Tz.Offset.seconds (offset_of d) ≡ wall_of wall.now -ℤ second_of d) result }
-    ensures zone { (zone : Tz) → AllMapped (λ o. Tz.zone_of o ≡ zone) offsets → AllMapped (λ d. Tz.zone_of (offset_of d) ≡ zone) result }
+    ensures offsets { AllMapped
+        (λ d. Tz.Offset.seconds (offset_of d) ≡ wall_of wall.now -ℤ second_of d) result }
+    ensures zone { (zone : Tz) → AllMapped (λ o. Tz.zone_of o ≡ zone) offsets
+        → AllMapped (λ d. Tz.zone_of (offset_of d) ≡ zone) result }
 {
     match offsets {
         MappedLocalTime::None => MappedLocalTime::None,
@@ -54,8 +58,10 @@ pub(crate) fn days<Tz: TimeZone>(
     offsets: MappedLocalTime<Tz::Offset>,
 ) -> MappedLocalTime<Date<Tz>>
     ensures days { AllMapped (λ d. day_number d ≡ day.now) result }
-    ensures offsets { mapped_map (λ d. Tz.Offset.seconds (date_offset d)) result ≡ mapped_map Tz.Offset.seconds offsets }
-    ensures zone { (zone : Tz) → AllMapped (λ o. Tz.zone_of o ≡ zone) offsets → AllMapped (λ d. Tz.zone_of (date_offset d) ≡ zone) result }
+    ensures offsets { mapped_map (λ d. Tz.Offset.seconds (date_offset d)) result
+        ≡ mapped_map Tz.Offset.seconds offsets }
+    ensures zone { (zone : Tz) → AllMapped (λ o. Tz.zone_of o ≡ zone) offsets
+        → AllMapped (λ d. Tz.zone_of (date_offset d) ≡ zone) result }
 {
     match offsets {
         MappedLocalTime::None => MappedLocalTime::None,
@@ -95,8 +101,11 @@ fn moment_by<Tz: Civil>(
 /// In a sound zone that is the one second that shows the wall time, the first of two, or, where the clock is put forward over
 /// it, the wall time less the offset before that. It is `None` exactly where that second is outside the calendar.
 pub fn placed<Tz: Civil>(zone: &Tz, wall: &NaiveDateTime) -> Option<DateTime<Tz>>
-    ensures placed { Tz.sound zone.now → IfSome result (λ d. IsPlaced (Tz.off zone.now) (wall_of wall.now) (second_of d)) }
-    ensures outside { IfNone result ((s : ℤ) × (Tz.sound zone.now → IsPlaced (Tz.off zone.now) (wall_of wall.now) s) × (IsWallSecond s → ⊥)) }
+    ensures placed { Tz.sound zone.now
+        → IfSome result (λ d. IsPlaced (Tz.off zone.now) (wall_of wall.now) (second_of d)) }
+    ensures outside { IfNone result
+        ((s : ℤ) × (Tz.sound zone.now → IsPlaced (Tz.off zone.now) (wall_of wall.now) s)
+        × (IsWallSecond s → ⊥)) }
     ensures fraction { IfSome result (λ d. fraction_of d ≡ nanos_of wall.now) }
     ensures zone { IfSome result (λ d. Tz.zone_of (offset_of d) ≡ zone.now) }
     ensures offset { Tz.sound zone.now → IfSome result

@@ -71,7 +71,8 @@ fn named_zones(
 ) -> Result<Vec<Named>, BinaryDeserializerError>
     requires names { length names ≡ length zones }
     requires regions { length regions.now ≡ length zones }
-    ensures zones { Reads (λ v. zones_of v.items) result (list_steps (rule_for rules.now) zones names regions.now) }
+    ensures zones { Reads (λ v. zones_of v.items) result
+        (list_steps (rule_for rules.now) zones names regions.now) }
     ensures texts { IfOk result (λ v. All HasText v.items) }
 {
     let mut entries = Vec::with_capacity(alloc, regions.len())?;
@@ -191,7 +192,8 @@ fn checked_zones(
     names: Items<Resource>,
     regions: &[Resource],
 ) -> Result<Vec<Named>, BinaryDeserializerError>
-    ensures zones { Reads (λ v. zones_of v.items) result (checked_steps (rule_for rules.now) zones names regions.now) }
+    ensures zones { Reads (λ v. zones_of v.items) result
+        (checked_steps (rule_for rules.now) zones names regions.now) }
     ensures entries { IfOk result (λ v. AreEntries v.items) }
 {
     if !are_arrays(zones.as_slice(), names.as_slice(), regions) {
@@ -239,7 +241,8 @@ impl ZoneInfo64 {
     ) -> Result<ZoneInfo64, BinaryDeserializerError>
         ensures list { IfOk result (λ info. zones_of_words words.now ≡ Some info) }
         ensures tree { IsErrOf result errors.Tree → tree_of words.now ≡ None }
-        ensures rules { IsErrOf result errors.Rules → IsSome (tree_of words.now) × (zones_of_words words.now ≡ None) }
+        ensures rules { IsErrOf result errors.Rules
+            → IsSome (tree_of words.now) × (zones_of_words words.now ≡ None) }
     {
         let root = match resb_tree::read(alloc, words) {
             Ok(root) => root,

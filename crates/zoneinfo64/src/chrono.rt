@@ -96,8 +96,10 @@ fn mapped<O: Copy>(answer: &CivilOffset<O>) -> MappedLocalTime<O>
 // The offsets of a wall second.
 fn at_wall<'a>(zone: &Zone<'a>, wall: i64) -> CivilOffset<ChronoOffset<'a>>
     ensures zone { AllCivil (λ o. zone_told o ≡ zone.now) result }
-    ensures counts { IsSound zone.now → IsCivil (zone_off zone.now) wall (civil_map seconds_told result) }
-    ensures local { IsSound zone.now → zone_local zone.now wall ≡ mapped_of (civil_map seconds_told result) }
+    ensures counts { IsSound zone.now
+        → IsCivil (zone_off zone.now) wall (civil_map seconds_told result) }
+    ensures local { IsSound zone.now
+        → zone_local zone.now wall ≡ mapped_of (civil_map seconds_told result) }
 {
     let answer = zone.offsets_of_wall(wall);
     named(zone, &answer)

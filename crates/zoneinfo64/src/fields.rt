@@ -222,7 +222,8 @@ fn are_entries(
     late: &[u32],
     numbers: &[u8],
 ) -> bool
-    ensures { IsTrue result ↔ AreKnown pairs.now (seconds_of early.now middle.now late.now) numbers.now }
+    ensures { IsTrue result
+        ↔ AreKnown pairs.now (seconds_of early.now middle.now late.now) numbers.now }
 {
     have_len(early, middle, late, numbers.len()) && are_below(numbers, pairs.len())
 }

@@ -64,7 +64,8 @@ fn all(a: bool, b: bool, c: bool, d: bool, e: bool) -> bool
 
 /// Whether five numbers are a date.
 fn is_date(month: u32, day: u32, code: u32, seconds: u32, mode: u32) -> bool
-    ensures { result ≡ is_date (as_i32 month) (as_i32 day) (as_i32 code) (as_i32 seconds) (as_i32 mode) }
+    ensures { result
+        ≡ is_date (as_i32 month) (as_i32 day) (as_i32 code) (as_i32 seconds) (as_i32 mode) }
 {
     all(
         between(0, 11, month),
@@ -89,7 +90,8 @@ fn mode_of(word: u32) -> TimeMode
 
 fn date_from(month: u32, day: u32, code: u32, seconds: u32, mode: u32) -> RuleDate
     requires { unsigned_abs (as_i32 mode) ≤ 2 }
-    ensures { plain_date result ≡ date_from (as_i32 month) (as_i32 day) (as_i32 code) (as_i32 seconds) (as_i32 mode) }
+    ensures { plain_date result
+        ≡ date_from (as_i32 month) (as_i32 day) (as_i32 code) (as_i32 seconds) (as_i32 mode) }
 {
     RuleDate::new(
         size(month),
@@ -103,7 +105,8 @@ fn date_from(month: u32, day: u32, code: u32, seconds: u32, mode: u32) -> RuleDa
 /// A date from its five numbers.
 fn date(month: u32, day: u32, code: u32, seconds: u32, mode: u32) -> Option<RuleDate>
     ensures good { IfSome result (λ d. IsDateInRange (plain_date d)) }
-    ensures value { option_map plain_date result ≡ date_rule (as_i32 month) (as_i32 day) (as_i32 code) (as_i32 seconds) (as_i32 mode) }
+    ensures value { option_map plain_date result
+        ≡ date_rule (as_i32 month) (as_i32 day) (as_i32 code) (as_i32 seconds) (as_i32 mode) }
 {
     if is_date(month, day, code, seconds, mode) {
         Some(date_from(month, day, code, seconds, mode))
@@ -116,7 +119,8 @@ fn dates_from(start: Option<RuleDate>, end: Option<RuleDate>, extra: u32) -> Opt
     requires start { IfSome start (λ d. IsDateInRange (plain_date d)) }
     requires end { IfSome end (λ d. IsDateInRange (plain_date d)) }
     ensures good { IfSome result (λ d. AreDatesInRange (raw_of d)) }
-    ensures value { option_map raw_of result ≡ by_dates (option_map plain_date start) (option_map plain_date end) (as_i32 extra) }
+    ensures value { option_map raw_of result
+        ≡ by_dates (option_map plain_date start) (option_map plain_date end) (as_i32 extra) }
 {
     let Some(start) = start else {
         return None;

@@ -61,7 +61,9 @@ fn is_pair(high: u16, low: u16) -> bool
 
 /// The character of a pair of surrogates.
 fn pair(high: u16, low: u16) -> Option<char>
-    ensures { result ≡ (if is_high_surrogate high && is_low_surrogate low then Some (surrogate_pair_char high low) else None) }
+    ensures { result
+        ≡ (if is_high_surrogate high && is_low_surrogate low
+        then Some (surrogate_pair_char high low) else None) }
 {
     if !is_pair(high, low) {
         return None;
@@ -79,7 +81,8 @@ fn lone(unit: u16) -> char
 
 /// The first character of units, and the units after it.
 fn first_char(units: &[u16]) -> Option<(char, &[u16])>
-    ensures some { IfSome result (λ p. utf16_lossy_chars units.now ≡ p.0 ∷ utf16_lossy_chars p.1.now) }
+    ensures some { IfSome result
+        (λ p. utf16_lossy_chars units.now ≡ p.0 ∷ utf16_lossy_chars p.1.now) }
     ensures none { IfNone result (units.now ≡ []) }
 {
     match units {

@@ -121,7 +121,8 @@ ghost use Rattle.zoneinfo64.specs.declared.zone.Named.{Named};
 /// The place of the entry of that name.
 fn place_of(entries: &[Named], iana: &str) -> Option<usize>
     requires { AreEntries entries.now }
-    ensures { result ≡ position (λ (e : Named). bytes_eq (string_bytes e.text) iana.now) entries.now }
+    ensures { result
+        ≡ position (λ (e : Named). bytes_eq (string_bytes e.text) iana.now) entries.now }
 {
     let mut low = 0;
     let mut high = entries.len();
@@ -177,7 +178,8 @@ impl<'a> Zone<'a> {
     /// transition on; `None` where none does, since clocks are put forward over it. In a zone that is not lawful it is one
     /// of these, and nothing is promised. Takes no memory.
     pub fn offsets_of_wall(&self, wall: i64) -> PossibleOffset
-        ensures answers { IfSome (plain_zone self.now) (λ z. IsLawful z → AnswersWall z wall result) }
+        ensures answers { IfSome (plain_zone self.now)
+            (λ z. IsLawful z → AnswersWall z wall result) }
         ensures placed { IfSome (plain_zone self.now)
             (λ z. IsLawful z → IsPlaced z wall (wall -ℤ (placing result).offset)) }
     {
