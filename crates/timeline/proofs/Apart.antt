@@ -1,58 +1,24 @@
--- A table whose entries lie days apart keeps the laws, if its offsets, its parts and its end do.
-use Rattle.std.proofs.Common.{◌≡◌, ℕ, zero, suc, ◌+◌, ◌<◌, List, All, get_or, length, slice_get, Option, Some, None, IfSome, option_map, refl, sym, ap, subst, ◌∙◌, ℤ, pos, negsuc, ◌+ℤ◌, ◌<ℤ◌, arith}
+-- An entry that lies days from the one before it keeps the laws, if its offsets, its part and the end of the table allow it.
+use Rattle.std.proofs.Common.{◌≡◌, ℕ, zero, suc, ◌+◌, ◌<◌, nat_lt, nat_le, Bool, List, All, get_or, length, slice_get, Option, Some, None, IfSome, option_map, add-one, refl, sym, subst, ◌∙◌, ℤ, pos, ◌+ℤ◌, ◌<ℤ◌, arith}
 use Rattle.std.proofs.lemmas.Int.{ints, clamps}
-use Rattle.std.proofs.lemmas.Bool.Decides.{nat_tests}
 use Rattle.std.proofs.lemmas.Option.{slice_get_within}
+use Rattle.timeline.specs.declared.offset.Offset.{Offset}
 use Rattle.timeline.specs.declared.offset.Transition.{Transition}
 use Rattle.timeline.specs.declared.fault.ZoneFault.{ZoneFault}
 use Rattle.timeline.specs.declared.check.Walls as checked
 use Rattle.timeline.specs.Zone.{PlainZone, PlainRule}
 use Rattle.timeline.specs.Table.{PlainSeconds, pair_of_number, transition_to, table_from, zone_from, AreEntries}
 use Rattle.timeline.specs.Timeline.{offset_or}
-use Rattle.timeline.specs.Laws.{IsSmall, KeepsOrder}
-use Rattle.timeline.specs.Inside.CheckSteps.{AreNear, AreWalled, EndBefore, TableKeeps, table_before, table_walls}
-use Rattle.timeline.specs.Inside.Apart.{IsApart, AreApart, AreSmall, EndsEarly, BeginsLate, EndsApart}
+use Rattle.timeline.specs.Laws.{IsSmall}
+use Rattle.timeline.specs.Inside.CheckSteps.{AreNear, AreWalled, EndBefore, InPart, IsSecondAt, IsSecondBefore, KeepsAt, table_before, table_walls, walls_before}
+use Rattle.timeline.specs.Inside.Apart.{IsApart, AreSmall}
 use Rattle.timeline.proofs.LeastFaults.{all_kept}
-use Rattle.timeline.proofs.CheckWhole.{pairs_from}
+use Rattle.timeline.proofs.CheckLaws.{since_read}
 use Rattle.timeline.proofs.TimelineEntries.{is_there}
 use Rattle.timeline.proofs.TableEntries.{length-table_from, table_from-at, pair_is}
-use Rattle.timeline.proofs.TablePlaces.{table_rises}
 
 injective : {A : Type 0} (x y : A) → Some x ≡ Some y → x ≡ y
 injective x y e = cc
-
--- the second of an entry is the one that was read at its place
-pub since_read : (table : List Transition) (n : ℕ) (s : ℤ) (e : Transition) → option_map (λ (e : Transition). e.since) (slice_get table n) ≡ Some s → slice_get table n ≡ Some e → e.since ≡ s
-since_read table n s e read get = injective e.since s (sym (ap (option_map (λ (e : Transition). e.since)) get) ∙ read)
-
-pub apart_order : (z : PlainZone) → AreApart z → KeepsOrder z
-apart_order z h n a b first second = let far = h n a b first second in omega (arith, ints, far)
-
--- the last second of the first part, the first one of the third, and the last one of all
-pub early_shown : (z : PlainZone) (n : ℕ) (s : ℤ) → suc n ≡ z.early → n < length z.table → option_map (λ (e : Transition). e.since) (slice_get z.table n) ≡ Some s → s <ℤ negsuc 2147483647
-    → KeepsOrder z → EndsEarly z
-early_shown z n s is within read less order m e get before =
-    let last = is_there z.table n within in
-    let same = since_read z.table n s last.0 read last.1 in
-    let up = table_rises z m n e last.0 order get last.1 (omega (arith, is, before)) in
-    omega (arith, ints, same, up, less)
-
-pub late_shown : (z : PlainZone) (n : ℕ) (s : ℤ) → n + z.late ≡ length z.table → n < length z.table → option_map (λ (e : Transition). e.since) (slice_get z.table n) ≡ Some s → pos 2147483647 <ℤ s
-    → KeepsOrder z → BeginsLate z
-late_shown z n s is within read more order m e get from =
-    let first = is_there z.table n within in
-    let same = since_read z.table n s first.0 read first.1 in
-    let up = table_rises z n m first.0 e order first.1 get (omega (arith, is, from)) in
-    omega (arith, ints, same, up, more)
-
-pub end_shown : (z : PlainZone) (n : ℕ) (s limit : ℤ) → suc n ≡ length z.table → option_map (λ (e : Transition). e.since) (slice_get z.table n) ≡ Some s → IsApart s limit
-    → KeepsOrder z → EndsApart z (Some limit)
-end_shown z n s limit is read far order m e get =
-    let last = is_there z.table n (omega (arith, is)) in
-    let same = since_read z.table n s last.0 read last.1 in
-    let inside = slice_get_within z.table m e get in
-    let up = table_rises z m n e last.0 order get last.1 (omega (arith, is, inside)) in
-    omega (arith, ints, same, up, far)
 
 -- what holds before an entry is small too
 small_before : (z : PlainZone) (n : ℕ) → AreSmall z → IsSmall (table_before z.initial z.table n).offset
@@ -63,42 +29,71 @@ small_before z (suc n) small = by (slice_get z.table n) refl
     by None h = let P : Option Transition → Type 0 = λ o. IsSmall (offset_or z.initial o).offset in subst P (sym h) small.initial
     by (Some a) h = let P : Option Transition → Type 0 = λ o. IsSmall (offset_or z.initial o).offset in subst P (sym h) (small.table n a h)
 
+-- a relation of the nth entry with the one before it, if there is one
+pair_at : (R : checked.Walls → checked.Walls → Type 0) (initial : Offset) (table : List Transition) (n : ℕ) (e : Transition)
+    → ((m : ℕ) (a : Transition) → m + 1 ≡ n → slice_get table m ≡ Some a → R (table_walls initial table m a) (table_walls initial table n e))
+    → IfSome (walls_before initial table n) (λ p. R p (table_walls initial table n e))
+pair_at R initial table zero e law = tt
+pair_at R initial table (suc n) e law = by (slice_get table n) refl
+  where
+    by : (o : Option Transition) → slice_get table n ≡ o → IfSome (option_map (table_walls initial table n) (slice_get table n)) (λ p. R p (table_walls initial table (suc n) e))
+    by None h = let P : Option Transition → Type 0 = λ o. IfSome (option_map (table_walls initial table n) o) (λ p. R p (table_walls initial table (suc n) e)) in subst P (sym h) tt
+    by (Some a) h =
+        let P : Option Transition → Type 0 = λ o. IfSome (option_map (table_walls initial table n) o) (λ p. R p (table_walls initial table (suc n) e)) in
+        subst P (sym h) (law n a (add-one n) h)
+
 abbrev Rising : checked.Walls → checked.Walls → Type 0
 Rising p q = p.since <ℤ q.since
 
-pub laws_shown : (z : PlainZone) (limit : Option ℤ) → AreSmall z → AreApart z → EndsEarly z → BeginsLate z → EndsApart z limit
-    → (f : ZoneFault) → TableKeeps z.initial z.table z.early z.late limit f
-laws_shown z limit small apart early late ends =
-    all_kept (TableKeeps z.initial z.table z.early z.late limit)
-    (λ n e get. record { in_early = λ t. early n e get (grind (arith, nat_tests, t)); in_late = λ t. late n e get (grind (arith, nat_tests, t)) })
-    (pairs_from Rising z.initial z.table (apart_order z apart))
-    (λ n e get. small.table n e get)
-    (pairs_from AreNear z.initial z.table (λ n a b first second.
-    let far = apart n a b first second in
-    let before = small_before z n small in
-    let own = small.table n a first in
-    let next = small.table (n + 1) b second in
+-- the nth entry keeps all laws, if its second lies in its part and far from the one before it and from the limit
+pub entry_shown : (z : PlainZone) (limit : Option ℤ) (n : ℕ) (previous second : ℤ) (early late : Bool) → early ≡ nat_lt n z.early → late ≡ nat_le (length z.table) (n + z.late)
+    → IsSecondBefore z.table n previous → IsSecondAt z.table n second → InPart early late second → IsApart previous second → AreSmall z → IfSome limit (λ l. IsApart second l)
+    → (f : ZoneFault) → KeepsAt z.initial z.table z.early z.late limit f n
+entry_shown z limit n previous second early late is_early is_late before read part far small ends =
+    all_kept (λ f. KeepsAt z.initial z.table z.early z.late limit f n)
+    (λ e get.
+    let same = since_read z.table n second e read get in
     record {
-      to_second = omega (arith, ints, clamps, far, before.0, before.1, own.0, own.1);
-      from_second = omega (arith, ints, clamps, far, own.0, own.1, next.0, next.1);
+      in_early = λ t. let h = part.in_early (is_early ∙ t) in omega (arith, ints, same, h);
+      in_late = λ t. let h = part.in_late (is_late ∙ t) in omega (arith, ints, same, h);
+    })
+    (λ e get. pair_at Rising z.initial z.table n e (λ m a next first. let apart = far_from e get m a next first in omega (arith, ints, apart)))
+    (λ e get. small.table n e get)
+    (λ e get. pair_at AreNear z.initial z.table n e (λ m a next first.
+    let apart = far_from e get m a next first in
+    let old = small_before z m small in
+    let between = small_before z n small in
+    let own = small.table m a first in
+    let after = small.table n e get in
+    record {
+      to_second = omega (arith, ints, clamps, apart, old.0, old.1, own.0, own.1);
+      from_second = omega (arith, ints, clamps, apart, between.0, between.1, after.0, after.1);
     }))
-    (pairs_from AreWalled z.initial z.table (λ n a b first second.
-    let far = apart n a b first second in
-    let before = small_before z n small in
-    let own = small.table n a first in
-    let next = small.table (n + 1) b second in
-    omega (arith, ints, clamps, far, before.0, before.1, own.0, own.1, next.0, next.1)))
-    (λ n e get. by_limit limit n e get (ends n e get))
-    (λ n e get. tt) (λ n e get. tt)
+    (λ e get. pair_at AreWalled z.initial z.table n e (λ m a next first.
+    let apart = far_from e get m a next first in
+    let old = small_before z m small in
+    let between = small_before z n small in
+    let own = small.table m a first in
+    let after = small.table n e get in
+    omega (arith, ints, clamps, apart, old.0, old.1, own.0, own.1, between.0, between.1, after.0, after.1)))
+    (λ e get. by_limit limit e get ends)
+    (λ e get. tt) (λ e get. tt)
   where
-    by_limit : (limit : Option ℤ) (n : ℕ) (e : Transition) → slice_get z.table n ≡ Some e → IfSome limit (λ l. IsApart e.since l) → IfSome limit (λ l. EndBefore l (table_walls z.initial z.table n e))
-    by_limit None n e get far = tt
-    by_limit (Some l) n e get far =
-        let before = small_before z n small in
+    far_from : (e : Transition) → slice_get z.table n ≡ Some e → (m : ℕ) (a : Transition) → m + 1 ≡ n → slice_get z.table m ≡ Some a → IsApart a.since e.since
+    far_from e get m a next first =
+        let same = since_read z.table n second e read get in
+        let last = since_read z.table m previous a (before m next) first in
+        omega (arith, ints, far, same, last)
+
+    by_limit : (limit : Option ℤ) (e : Transition) → slice_get z.table n ≡ Some e → IfSome limit (λ l. IsApart second l) → IfSome limit (λ l. EndBefore l (table_walls z.initial z.table n e))
+    by_limit None e get ends = tt
+    by_limit (Some l) e get ends =
+        let same = since_read z.table n second e read get in
+        let old = small_before z n small in
         let own = small.table n e get in
         record {
-          since = omega (arith, ints, far);
-          latest = omega (arith, ints, clamps, far, before.0, before.1, own.0, own.1);
+          since = omega (arith, ints, same, ends);
+          latest = omega (arith, ints, clamps, same, ends, old.0, old.1, own.0, own.1);
         }
 
 -- ---- offsets by their pairs

@@ -1,5 +1,5 @@
 -- The laws of a zone, from what its checker tests.
-use Rattle.std.proofs.Common.{◌≡◌, ℕ, ◌+◌, ◌<◌, ◌≤◌, nat_lt, nat_le, Bool, List, length, slice_get, Option, Some, Ok, add-one, refl, sym, ap, subst, ◌∙◌, ℤ, ◌+ℤ◌, arith}
+use Rattle.std.proofs.Common.{◌≡◌, ℕ, suc, ◌+◌, ◌<◌, ◌≤◌, nat_lt, nat_le, Bool, List, length, slice_get, Option, Some, option_map, sym, ap, subst, ◌∙◌, ℤ, ◌+ℤ◌, arith}
 use Rattle.std.specs.Int.{int_min, int_max}
 use Rattle.std.proofs.lemmas.Int.{ints, clamps}
 use Rattle.std.proofs.lemmas.Option.{slice_get_within}
@@ -10,8 +10,9 @@ use Rattle.timeline.specs.declared.check.Walls.{Walls}
 use Rattle.timeline.specs.Timeline.{offset_of}
 use Rattle.timeline.specs.Inside.LeastFaults.{TellsLeast}
 use Rattle.timeline.proofs.LeastFaults.{Told, tells-same}
+use Rattle.timeline.proofs.TimelineEntries.{is_there}
 use Rattle.timeline.specs.Laws.{Step, IsSmall, IsNear, IsWalled, EndsBefore, LiesIn}
-use Rattle.timeline.specs.Inside.CheckSteps.{walls, AreNear, AreWalled, EndBefore, LieIn, EntryKeeps, KeepsAt, TableKeeps, table_before, table_walls, walls_before}
+use Rattle.timeline.specs.Inside.CheckSteps.{walls, AreNear, AreWalled, EndBefore, LieIn, IsSecondAt, IsSecondBefore, EntryKeeps, KeepsAt, TableKeeps, table_walls, walls_before}
 
 -- walls by their parts
 pub walls_are : (s : Step) (a b c : ℤ) → a ≡ s.since → b ≡ s.since +ℤ int_min s.before s.after → c ≡ s.since +ℤ int_max s.before s.after
@@ -71,6 +72,22 @@ lies-back low high s h = record {
 injective : {A : Type 0} (x y : A) → Some x ≡ Some y → x ≡ y
 injective x y e = cc
 
+-- what was read of an entry
+pub since_read : (table : List Transition) (n : ℕ) (s : ℤ) (e : Transition) → IsSecondAt table n s → slice_get table n ≡ Some e → e.since ≡ s
+since_read table n s e read get = injective e.since s (sym (ap (option_map (λ (e : Transition). e.since)) get) ∙ read)
+
+pub offset_read : (table : List Transition) (n : ℕ) (o : Offset) (e : Transition) → option_map offset_of (slice_get table n) ≡ Some o → slice_get table n ≡ Some e → o.offset ≡ e.offset
+offset_read table n o e read get = ap (λ (x : Offset). x.offset) (injective o (offset_of e) (sym read ∙ ap (option_map offset_of) get))
+
+-- the walls of the entry before the nth one
+pub walls_before-is : (before_all : Offset) (table : List Transition) (n k : ℕ) (w : Walls) → n ≡ suc k → k < length table
+    → ((e : Transition) → slice_get table k ≡ Some e → w ≡ table_walls before_all table k e) → Some w ≡ walls_before before_all table n
+walls_before-is before_all table n k w next within is =
+    let there = is_there table k within in
+    let P : Option Transition → Type 0 = λ o. Some w ≡ option_map (table_walls before_all table k) o in
+    let Q : ℕ → Type 0 = λ m. Some w ≡ walls_before before_all table m in
+    subst Q (sym next) (subst P (sym there.1) (ap Some (is there.0 there.1)))
+
 -- what was tested at the nth entry
 pub entry_told : (before_all : Offset) (table : List Transition) (early late n : ℕ) (limit : Option ℤ) (entry : Transition) (e l : Bool) (previous : Option Walls) (w : Walls) (after : ℤ) (r : Told)
     → slice_get table n ≡ Some entry → e ≡ nat_lt n early → l ≡ nat_le (length table) (n + late) → previous ≡ walls_before before_all table n → w ≡ table_walls before_all table n entry → after ≡ entry.offset
@@ -89,11 +106,12 @@ entry_told before_all table early late n limit entry e l previous w after r get 
     subst Q (injective entry other (sym get ∙ got)) kept)
     (λ f all. all entry get) told
 
-pub next_before : (before_all : Offset) (table : List Transition) (n : ℕ) (entry : Transition) → slice_get table n ≡ Some entry → offset_of entry ≡ table_before before_all table (n + 1)
-next_before before_all table n entry get = rw (add-one, get) refl
-
-pub next_walls : (before_all : Offset) (table : List Transition) (n : ℕ) (entry : Transition) (w : Walls) → slice_get table n ≡ Some entry → w ≡ table_walls before_all table n entry → Some w ≡ walls_before before_all table (n + 1)
-next_walls before_all table n entry w get is = rw (add-one, get) (ap Some is)
+-- the second of an entry is the one before that of the next
+pub second_passed : (table : List Transition) (n : ℕ) (s : ℤ) → IsSecondAt table n s → IsSecondBefore table (n + 1) s
+second_passed table n s read m next =
+    let same : n ≡ m = omega (arith, next) in
+    let P : ℕ → Type 0 = λ k. IsSecondAt table k s in
+    subst P same read
 
 -- the whole table
 pub table_told : (before_all : Offset) (table : List Transition) (early late n : ℕ) (limit : Option ℤ) (r : Told) → length table ≤ n
@@ -102,10 +120,6 @@ table_told before_all table early late n limit r whole h =
     tells-same (λ f. (m : ℕ) → m < n → KeepsAt before_all table early late limit f m) (TableKeeps before_all table early late limit) r
     (λ f all m e get. let inside = slice_get_within table m e get in all m (omega (arith, inside)) e get)
     (λ f all m less. all m) h
-
--- before the first entry nothing is asked
-pub nothing_told : (K : ZoneFault → ℕ → Type 0) → TellsLeast (λ f. (m : ℕ) → m < 0 → K f m) (Ok tt)
-nothing_told K = λ f m less. absurd (omega (arith, less))
 
 pub small_moved : (a b : ℤ) → a ≡ b → IsSmall a → IsSmall b
 small_moved a b e h = let P : ℤ → Type 0 = IsSmall in subst P e h

@@ -7,9 +7,11 @@ ghost use Rattle.timeline.specs.Rule.{second_entry};
 ghost use Rattle.timeline.specs.Timeline.{offset_of};
 ghost use Rattle.timeline.specs.Inside.KeptRules.{kept_rule};
 ghost use Rattle.timeline.specs.Laws.{IsSmall, step};
+ghost use Rattle.timeline.specs.declared.offset.Transition.{Transition as Entry};
+ghost use Rattle.timeline.specs.declared.fault.ZoneFault.{ZoneFault as Fault};
 ghost use Rattle.timeline.specs.Fault.{Keeps};
 ghost use Rattle.timeline.specs.Inside.LeastFaults.{TellsLeast};
-ghost use Rattle.timeline.specs.Inside.CheckSteps.{walls, AreNear, AreWalled, EndBefore, BeginFrom, LieIn, InPart, EntryKeeps, TableKeeps, table_before, PairKeeps, YearKeeps, YearsKeep, RuleKeeps, SizeKept};
+ghost use Rattle.timeline.specs.Inside.CheckSteps.{walls, AreNear, AreWalled, EndBefore, BeginFrom, LieIn, InPart, IsSecondAt, IsSecondBefore, EntryKeeps, KeepsAt, TableKeeps, table_before, table_walls, walls_before, PairKeeps, YearKeeps, YearsKeep, RuleKeeps, SizeKept};
 
 use crate::data::ZoneData;
 use crate::dates::ZoneRule;
@@ -17,8 +19,7 @@ use crate::fault::{ZoneFault, least_of};
 use crate::offset::{Offset, Transition};
 use crate::rule::YearRule;
 use civil::days_before_year;
-use std::marker::Brand;
-use std::sync::ledger::{Blank, Ledger};
+use std::sync::ledger::Ledger;
 use steps::Steps;
 
 mod apart;
@@ -185,54 +186,108 @@ fn is_late(len: usize, n: usize, late: usize) -> bool
     len - n <= late
 }
 
+/// What holds before the nth entry of a table, or after the table.
+fn offset_before(zone: &ZoneData, n: usize) -> Offset
+    requires { n ≤ length zone.now.table }
+    ensures { result ≡ table_before zone.now.initial zone.now.table n }
+{
+    if n == 0 {
+        zone.initial()
+    } else {
+        zone.offset_at(n - 1)
+    }
+}
+
+/// The walls of the nth entry of a table, whose second this is.
+fn walls_at(zone: &ZoneData, n: usize, second: i64) -> Walls
+    requires within { n < length zone.now.table }
+    requires second { IsSecondAt zone.now.table n second }
+    ensures { (e : Entry) → slice_get zone.now.table n ≡ Some e → result ≡ table_walls zone.now.initial zone.now.table n e }
+{
+    let before = offset_before(zone, n).offset.seconds();
+    walls_of(second, before, zone.offset_at(n).offset.seconds())
+}
+
+/// The walls of the entry before the nth one, if there is one; its second is the one given.
+fn walls_before(zone: &ZoneData, n: usize, previous: i64) -> Option<Walls>
+    requires within { n < length zone.now.table }
+    requires previous { IsSecondBefore zone.now.table n previous }
+    ensures { result ≡ walls_before zone.now.initial zone.now.table n }
+{
+    if n == 0 {
+        None
+    } else {
+        Some(walls_at(zone, n - 1, previous))
+    }
+}
+
+/// The least law that the nth entry of a table breaks, with the second that the table is to end before. The second of the
+/// entry before it, if there is one, and its own are the ones given. Few entries need it, so it stands outside the loop.
+#[inline(never)]
+fn fault_at(
+    zone: &ZoneData,
+    limit: Option<i64>,
+    n: usize,
+    previous: i64,
+    second: i64,
+) -> Result<(), ZoneFault>
+    requires within { n < length zone.now.table }
+    requires previous { IsSecondBefore zone.now.table n previous }
+    requires second { IsSecondAt zone.now.table n second }
+    ensures { TellsLeast (λ f. KeepsAt zone.now.initial zone.now.table zone.now.early zone.now.late limit f n) result }
+{
+    let early = n < zone.early();
+    let late = is_late(zone.len(), n, zone.late());
+    let before = walls_before(zone, n, previous);
+    let walls = walls_at(zone, n, second);
+    let after = zone.offset_at(n).offset.seconds();
+    entry_fault(early, late, before, walls, after, limit)
+}
+
+/// The same, at once where it was shown that the entry breaks none.
+fn fault_unless(
+    shown: bool,
+    zone: &ZoneData,
+    limit: Option<i64>,
+    n: usize,
+    previous: i64,
+    second: i64,
+) -> Result<(), ZoneFault>
+    requires shown { IsTrue shown → (f : Fault) → KeepsAt zone.now.initial zone.now.table zone.now.early zone.now.late limit f n }
+    requires within { n < length zone.now.table }
+    requires previous { IsSecondBefore zone.now.table n previous }
+    requires second { IsSecondAt zone.now.table n second }
+    ensures { TellsLeast (λ f. KeepsAt zone.now.initial zone.now.table zone.now.early zone.now.late limit f n) result }
+{
+    if shown {
+        return Ok(());
+    }
+    fault_at(zone, limit, n, previous, second)
+}
+
 /// The least law that a table breaks, with the second that it is to end before. Takes a step for each entry.
 fn table_fault<L: Ledger>(
     zone: &ZoneData,
     limit: Option<i64>,
     steps: &mut Steps<L>,
 ) -> Result<(), ZoneFault>
-    ensures { TellsLeast (TableKeeps zone.now.initial zone.now.table zone.now.early zone.now.late limit) result }
+    ensures told { TellsLeast (TableKeeps zone.now.initial zone.now.table zone.now.early zone.now.late limit) result }
+    ensures ticks { steps.new ≡ steps.old + length zone.now.table }
 {
     let mut least = Ok(());
-    let mut before = zone.initial();
-    let mut previous = None;
+    // No entry stands before the first one, so it is taken to lie far behind it.
+    let mut previous = i64::MIN;
     let (len, early, late) = (zone.len(), zone.early(), zone.late());
+    let end = apart::shown_end(zone, limit);
     for n in 0..len {
-        let entry = zone.entry_at(n, steps);
-        let after = entry.offset.seconds();
-        let walls = step_walls(&before, &entry);
+        let second = zone.second_at(n, steps);
         let in_late = is_late(len, n, late);
-        let fault = entry_fault(n < early, in_late, previous, walls, after, limit);
+        let shown = apart::shows_laws(n < early, in_late, previous, second, end);
+        let fault = fault_unless(shown, zone, limit, n, previous, second);
         least = least_of(least, fault);
-        before = offset_from(&entry);
-        previous = Some(walls);
+        previous = second;
     }
     least
-}
-
-/// The same, at once where the table shows that it breaks none; the steps go to the caller's ledger.
-fn table_fault_from<L: Ledger>(
-    zone: &ZoneData,
-    limit: Option<i64>,
-    blank: Blank,
-) -> Result<(), ZoneFault>
-    requires name { blank.name ≡ L.name }
-    requires parts { blank.parts ≡ L.parts }
-    requires some { 0 < L.parts }
-    ensures { TellsLeast (TableKeeps zone.now.initial zone.now.table zone.now.early zone.now.late limit) result }
-{
-    let mut steps = Steps::<L>::new(blank);
-    if apart::shows_laws(zone, limit, &mut steps) {
-        return Ok(());
-    }
-    table_fault(zone, limit, &mut steps)
-}
-
-/// The same, where no step is counted.
-fn fault_of_table(zone: &ZoneData, limit: Option<i64>) -> Result<(), ZoneFault>
-    ensures { TellsLeast (TableKeeps zone.now.initial zone.now.table zone.now.early zone.now.late limit) result }
-{
-    table_fault_from::<Brand>(zone, limit, Blank::new(1))
 }
 
 /// The least law that the two transitions of a year break, with the year's first second and that of the next year.
@@ -366,30 +421,20 @@ fn initial_fault(initial: Offset) -> Result<(), ZoneFault>
     }
 }
 
-/// What holds after the table.
-fn last_offset(zone: &ZoneData) -> Offset
-    ensures { result ≡ table_before zone.now.initial zone.now.table (length zone.now.table) }
-{
-    if zone.len() == 0 {
-        zone.initial()
-    } else {
-        zone.offset_at(zone.len() - 1)
-    }
-}
-
-/// The least law that a zone breaks. Takes 15 steps at most; the table's steps are not counted.
+/// The least law that a zone breaks. Takes a step for each entry of the table, and 15 more at most.
 pub fn least_fault<L: Ledger>(zone: &ZoneData, steps: &mut Steps<L>) -> Result<(), ZoneFault>
     ensures told { TellsLeast (Keeps zone.now) result }
-    ensures ticks { steps.new ≤ steps.old + 15 }
+    ensures ticks { steps.new ≤ steps.old + (15 + length zone.now.table) }
 {
     let least = initial_fault(zone.initial());
     match zone.rule() {
-        None => least_of(least, fault_of_table(zone, None)),
+        None => least_of(least, table_fault(zone, None, steps)),
         Some(rule) => {
             let years = rule.years();
             let limit = first_second(years.first_year());
-            let least = least_of(least, fault_of_table(zone, Some(limit)));
-            let least = least_of(least, rule_fault(years, last_offset(zone), steps));
+            let least = least_of(least, table_fault(zone, Some(limit), steps));
+            let last = offset_before(zone, zone.len());
+            let least = least_of(least, rule_fault(years, last, steps));
             least_of(least, years_fault(years, steps))
         }
     }

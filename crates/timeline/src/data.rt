@@ -282,7 +282,7 @@ impl ZoneData {
     /// breaks.
     ///
     /// All years of a kind keep the same laws, so it learns one year of each of the 14 kinds, by a step for each, and goes
-    /// through the table once, or twice where it has 1,500 entries at most and not all of them lie days apart.
+    /// through the table once, by a step for each entry.
     pub fn check<L: Ledger>(&self, steps: &mut Steps<L>) -> Result<(), ZoneFault>
         ensures lawful { IsOk result ↔ IsLawful self.now }
         ensures fault { IfErr result (IsLeastBroken self.now) }

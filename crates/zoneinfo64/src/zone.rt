@@ -235,7 +235,7 @@ impl<'a> Zone<'a> {
     /// breaks.
     ///
     /// All years of a kind keep the same laws, so it learns one year of each of the 14 kinds, by a step for each, and goes
-    /// through the table once. Takes no memory.
+    /// through the table once, by a step for each entry. Takes no memory.
     pub fn check<L: Ledger>(&self, steps: &mut Steps<L>) -> Result<(), ZoneFault>
         ensures lawful { IfSome (plain_zone self.now) (λ z. IsOk result ↔ IsLawful z) }
         ensures fault { IfSome (plain_zone self.now) (λ z. IfErr result (IsLeastBroken z)) }

@@ -72,6 +72,14 @@ abbrev pub walls_before : Offset → List Transition → ℕ → Option Walls
 walls_before initial table zero = None
 walls_before initial table (suc n) = option_map (table_walls initial table n) (slice_get table n)
 
+-- the second of the nth entry
+abbrev pub IsSecondAt : List Transition → ℕ → ℤ → Type 0
+IsSecondAt table n s = option_map (λ (e : Transition). e.since) (slice_get table n) ≡ Some s
+
+-- and of the one before it, if there is one
+abbrev pub IsSecondBefore : List Transition → ℕ → ℤ → Type 0
+IsSecondBefore table n s = (m : ℕ) → m + 1 ≡ n → IsSecondAt table m s
+
 -- what the laws ask of the nth entry
 abbrev pub KeepsAt : Offset → List Transition → ℕ → ℕ → Option ℤ → ZoneFault → ℕ → Type 0
 KeepsAt initial table early late limit f n = (e : Transition) → slice_get table n ≡ Some e

@@ -19,7 +19,7 @@ returns-in-None-clause-told g c =
     let Q : Told → Type 0 = λ t. TellsLeast (NoRule z) t in
     let size = subst P c.initial.ensures c.initial_fault-least.ensures in
     none_told z c.least_of.result (sym c.rule.ensures ∙ ap (option_map (λ (r : Bor PlainRule). r.now)) c.in-None.is)
-    (subst Q (sym c.least_of.ensures) (tells-both (SizeKept z.initial) (T z None) c.initial_fault-least.result c.fault_of_table.result size c.fault_of_table.ensures))
+    (subst Q (sym c.least_of.ensures) (tells-both (SizeKept z.initial) (T z None) c.initial_fault-least.result c.table_fault.result size c.table_fault.ensures.told))
 
 pub returns-in-Some-clause-told : goal.returns-in-Some-clause-told
 returns-in-Some-clause-told g c =
@@ -32,7 +32,7 @@ returns-in-Some-clause-told g c =
     let limit : to_z w64 (of_z w64 c.first_second-limit.result) ≡ year_second r.first_year = to_z-of_z limit_fits ∙ c.first_second-limit.ensures ∙ ap year_second year in
     let L = Some (year_second r.first_year) in
     let P1 : Offset → Type 0 = λ o. TellsLeast (SizeKept o) c.initial_fault-least.result in
-    let P2 : ℤ → Type 0 = λ l. TellsLeast (TableKeeps z.initial z.table z.early z.late (Some l)) c.fault_of_table-in-Some.result in
+    let P2 : ℤ → Type 0 = λ l. TellsLeast (TableKeeps z.initial z.table z.early z.late (Some l)) c.table_fault-in-Some.result in
     let P3 : Offset → Type 0 = λ o. TellsLeast (RuleKeeps r o) c.rule_fault.result in
     let K1 : ZoneFault → Type 0 = λ f. SizeKept z.initial f × T z L f in
     let K2 : ZoneFault → Type 0 = λ f. K1 f × RuleKeeps r (table_before z.initial z.table (length z.table)) f in
@@ -40,7 +40,7 @@ returns-in-Some-clause-told g c =
     let Q2 : Told → Type 0 = λ t. TellsLeast K2 t in
     let Q3 : Told → Type 0 = λ t. TellsLeast (WithRule z r) t in
     let size = subst P1 c.initial.ensures c.initial_fault-least.ensures in
-    let table = subst Q1 (sym c.least_of-least.ensures) (tells-both (SizeKept z.initial) (T z L) c.initial_fault-least.result c.fault_of_table-in-Some.result size (subst P2 limit c.fault_of_table-in-Some.ensures)) in
-    let rule = subst Q2 (sym c.least_of-least-in-Some.ensures) (tells-both K1 (RuleKeeps r (table_before z.initial z.table (length z.table))) c.least_of-least.result c.rule_fault.result table (subst P3 c.last_offset.ensures (c.rule_fault.ensures.told r kept))) in
+    let table = subst Q1 (sym c.least_of-least.ensures) (tells-both (SizeKept z.initial) (T z L) c.initial_fault-least.result c.table_fault-in-Some.result size (subst P2 limit c.table_fault-in-Some.ensures.told)) in
+    let rule = subst Q2 (sym c.least_of-least-in-Some.ensures) (tells-both K1 (RuleKeeps r (table_before z.initial z.table (length z.table))) c.least_of-least.result c.rule_fault.result table (subst P3 (c.offset_before-last.ensures ∙ ap (table_before z.initial z.table) c.len.ensures) (c.rule_fault.ensures.told r kept))) in
     some_told z r c.least_of-in-Some.result (sym c.rule.ensures ∙ ap (option_map (λ (r : Bor PlainRule). r.now)) c.in-Some.is)
     (subst Q3 (sym c.least_of-in-Some.ensures) (tells-both K2 (YearsKeep r) c.least_of-least-in-Some.result c.years_fault.result rule (c.years_fault.ensures.told r kept)))
