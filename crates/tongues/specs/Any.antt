@@ -4,6 +4,7 @@ use Rattle.tongues.specs.Languages.{basque, belarusian, chinese, danish, english
 use Rattle.tongues.specs.declared.any.AnyLanguage.{AnyLanguage}
 use Rattle.tongues.specs.declared.any.AnyLanguage.TheVariants as any
 
+-- what each of the nineteen languages says
 abbrev pub any_speech : AnyLanguage → Speech
 any_speech (any.Basque l) = basque
 any_speech (any.Belarusian l) = belarusian

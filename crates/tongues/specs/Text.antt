@@ -10,9 +10,11 @@ utf8 c =
     if nat_lt c 65536 then (224 + c / 4096) ∷ (128 + c / 64 % 64) ∷ (128 + c % 64) ∷ [] else
     (240 + c / 262144) ∷ (128 + c / 4096 % 64) ∷ (128 + c / 64 % 64) ∷ (128 + c % 64) ∷ []))
 
+-- the bytes of these characters, one after the other
 abbrev pub utf8_all : List ℕ → List ℕ
 utf8_all [] = []
 utf8_all (c ∷ cs) = utf8 c ++ utf8_all cs
 
+-- the bytes of a text: the UTF-8 of its characters
 abbrev pub text : String → List ℕ
 text s = utf8_all (codes s)

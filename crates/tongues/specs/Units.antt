@@ -3,6 +3,7 @@ use Rattle.std.specs.Prelude.{ℕ, Option, Some, None}
 use Rattle.tongues.specs.declared.unit.TimeUnit.{TimeUnit}
 use Rattle.tongues.specs.declared.unit.TimeUnit.TheVariants as u
 
+-- the nanoseconds of a unit; a year is twelve months of 2,628,003 seconds
 abbrev pub unit_size : TimeUnit → ℕ
 unit_size u.Nanoseconds = 1
 unit_size u.Microseconds = 1000
@@ -15,6 +16,7 @@ unit_size u.Weeks = 604800000000000
 unit_size u.Months = 2628003000000000
 unit_size u.Years = 31536036000000000
 
+-- the next bigger unit; there is none past the year
 abbrev pub next_bigger : TimeUnit → Option TimeUnit
 next_bigger u.Nanoseconds = Some u.Microseconds
 next_bigger u.Microseconds = Some u.Milliseconds
@@ -27,6 +29,7 @@ next_bigger u.Weeks = Some u.Months
 next_bigger u.Months = Some u.Years
 next_bigger u.Years = None
 
+-- the next smaller unit; there is none below the nanosecond
 abbrev pub next_smaller : TimeUnit → Option TimeUnit
 next_smaller u.Nanoseconds = None
 next_smaller u.Microseconds = Some u.Nanoseconds
