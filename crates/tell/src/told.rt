@@ -109,8 +109,13 @@ fn offset_there(zone: Option<Result<Zone<'_>, ZoneFault>>, second: i64) -> Offse
 
 // A moment with its zone's offset there and the words of its distance.
 fn with_words(moment: Moment, offset: Offset, ahead: bool, text: String) -> Told
-    ensures { tale_of result ≡ record { seconds = moment.second; micros = moment.nanos / 1000;
-        offset = offset; ahead = ahead; text = string_bytes text } }
+    ensures { tale_of result ≡ record {
+      seconds = moment.second;
+      micros = moment.nanos / 1000;
+      offset = offset;
+      ahead = ahead;
+      text = string_bytes text;
+    } }
 {
     let Moment {
         second: seconds,

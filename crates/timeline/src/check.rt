@@ -202,7 +202,8 @@ fn offset_before(zone: &ZoneData, n: usize) -> Offset
 fn walls_at(zone: &ZoneData, n: usize, second: i64) -> Walls
     requires within { n < length zone.now.table }
     requires second { IsSecondAt zone.now.table n second }
-    ensures { (e : Entry) → slice_get zone.now.table n ≡ Some e → result ≡ table_walls zone.now.initial zone.now.table n e }
+    ensures { (e : Entry) → slice_get zone.now.table n ≡ Some e
+        → result ≡ table_walls zone.now.initial zone.now.table n e }
 {
     let before = offset_before(zone, n).offset.seconds();
     walls_of(second, before, zone.offset_at(n).offset.seconds())
@@ -234,7 +235,9 @@ fn fault_at(
     requires within { n < length zone.now.table }
     requires previous { IsSecondBefore zone.now.table n previous }
     requires second { IsSecondAt zone.now.table n second }
-    ensures { TellsLeast (λ f. KeepsAt zone.now.initial zone.now.table zone.now.early zone.now.late limit f n) result }
+    ensures { TellsLeast
+        (λ f. KeepsAt zone.now.initial zone.now.table zone.now.early zone.now.late limit f n)
+        result }
 {
     let early = n < zone.early();
     let late = is_late(zone.len(), n, zone.late());
@@ -253,11 +256,14 @@ fn fault_unless(
     previous: i64,
     second: i64,
 ) -> Result<(), ZoneFault>
-    requires shown { IsTrue shown → (f : Fault) → KeepsAt zone.now.initial zone.now.table zone.now.early zone.now.late limit f n }
+    requires shown { IsTrue shown → (f : Fault)
+        → KeepsAt zone.now.initial zone.now.table zone.now.early zone.now.late limit f n }
     requires within { n < length zone.now.table }
     requires previous { IsSecondBefore zone.now.table n previous }
     requires second { IsSecondAt zone.now.table n second }
-    ensures { TellsLeast (λ f. KeepsAt zone.now.initial zone.now.table zone.now.early zone.now.late limit f n) result }
+    ensures { TellsLeast
+        (λ f. KeepsAt zone.now.initial zone.now.table zone.now.early zone.now.late limit f n)
+        result }
 {
     if shown {
         return Ok(());
@@ -271,7 +277,8 @@ fn table_fault<L: Ledger>(
     limit: Option<i64>,
     steps: &mut Steps<L>,
 ) -> Result<(), ZoneFault>
-    ensures told { TellsLeast (TableKeeps zone.now.initial zone.now.table zone.now.early zone.now.late limit) result }
+    ensures told { TellsLeast
+        (TableKeeps zone.now.initial zone.now.table zone.now.early zone.now.late limit) result }
     ensures ticks { steps.new ≡ steps.old + length zone.now.table }
 {
     let mut least = Ok(());

@@ -156,8 +156,13 @@ fn places(date: RuleDate) -> [i16; 14]
 impl RuleDate {
     /// A date of these four numbers, with what its seconds are counted by.
     pub fn new(month: u32, day: i32, code: i32, seconds: u32, mode: TimeMode) -> RuleDate
-        ensures { plain_date result ≡ record { month = month; day = day; code = code;
-            seconds = seconds; mode = mode_number mode } }
+        ensures { plain_date result ≡ record {
+          month = month;
+          day = day;
+          code = code;
+          seconds = seconds;
+          mode = mode_number mode;
+        } }
     {
         RuleDate {
             month,

@@ -173,10 +173,22 @@ impl YearRule {
         start_is_first: bool,
         first_year: i32,
     ) -> YearRule
-        requires { IsKept (record { start = start; end = end; extra = extra; raw = raw;
-            start_is_first = start_is_first; first_year = first_year }) }
-        ensures { result ≡ record { start = start; end = end; extra = extra; raw = raw;
-            start_is_first = start_is_first; first_year = first_year } }
+        requires { IsKept (record {
+          start = start;
+          end = end;
+          extra = extra;
+          raw = raw;
+          start_is_first = start_is_first;
+          first_year = first_year;
+        }) }
+        ensures { result ≡ record {
+          start = start;
+          end = end;
+          extra = extra;
+          raw = raw;
+          start_is_first = start_is_first;
+          first_year = first_year;
+        } }
     {
         YearRule {
             start,

@@ -19,7 +19,8 @@ fn is_apart(first: i64, second: i64) -> bool
 /// The second from which on seconds alone show nothing of an entry: each before it is two days or more before the second
 /// that the table is to end before, if there is one. None is before it where an offset is a day or more.
 pub fn shown_end(zone: &ZoneData, limit: Option<i64>) -> i64
-    ensures { (s : ℤ) → negsuc 9223372036854775807 ≤ℤ s → s <ℤ result → AreSmall zone.now × IfSome limit (λ l. IsApart s l) }
+    ensures { (s : ℤ) → negsuc 9223372036854775807 ≤ℤ s → s <ℤ result
+        → AreSmall zone.now × IfSome limit (λ l. IsApart s l) }
 {
     if !zone.has_small_offsets() {
         return i64::MIN;
@@ -33,7 +34,8 @@ pub fn shown_end(zone: &ZoneData, limit: Option<i64>) -> i64
 /// Whether an entry shows by its second that it lies in its part, two days or more after the one before it, and before an
 /// end. One that does not may keep the laws too.
 pub fn shows_laws(early: bool, late: bool, previous: i64, second: i64, end: i64) -> bool
-    ensures { IsTrue result → InPart early late second × (IsApart previous second × (second <ℤ end)) }
+    ensures { IsTrue result
+        → InPart early late second × (IsApart previous second × (second <ℤ end)) }
 {
     is_in_part(early, late, second) && is_apart(previous, second) && second < end
 }
