@@ -1,5 +1,5 @@
 -- The zones that the bundle of a large input has.
-use Rattle.std.proofs.Common.{◌≡◌, ℕ, zero, suc, ◌+◌, ◌*◌, ◌%◌, ◌<◌, ◌≤◌, Bool, true, false, cond, List, [], ◌∷◌, ◌++◌, codes, Option, Some, None, refl, sym, ap, ◌∙◌, arith, ℤ, pos, negsuc, ◌-ℤ◌, ◌+ℤ◌, ◌≤ℤ◌, ◌-◌, ◌==◌, nat_lt, length, rules, w32, to_z-of_z, FitsSigned}
+use Rattle.std.proofs.Common.{◌≡◌, ℕ, zero, suc, ◌+◌, ◌%◌, ◌≤◌, Bool, true, false, cond, List, [], ◌∷◌, ◌++◌, Option, Some, None, refl, sym, ap, ◌∙◌, arith, ℤ, pos, negsuc, ◌-ℤ◌, ◌+ℤ◌, ◌≤ℤ◌, ◌-◌, ◌==◌, nat_lt, length, rules, w32}
 use Rattle.std.proofs.lemmas.Int.{ints}
 use Rattle.std.proofs.lemmas.Bool.{lt-ltb}
 use Rattle.std.proofs.lemmas.Bool.Decides.{nat_tests}
@@ -10,13 +10,16 @@ use Rattle.resb_tree.specs.declared.resource.Resource.{Resource, out-Resource, o
 use Rattle.resb_tree.specs.declared.resource.Resource.TheOpen.{Resource-F}
 use Rattle.resb_tree.specs.declared.resource.Resource.TheViews.{rolls-Table, rolls-Array, rolls-Text, rolls-Integers}
 use Rattle.resb_tree.specs.declared.resource.Resource.TheVariants as r
-use Rattle.resb_tree.specs.Tree.{◌>>=◌, when}
+use Rattle.resb_tree.specs.Tree.{when}
 use Rattle.resb_tree.specs.Header.{tree_of}
 use Rattle.timeline.specs.Zone.{fits_i32}
-use Rattle.zoneinfo64.specs.NamedZone.{NamedZone, IsZone}
-use Rattle.zoneinfo64.specs.Bundle.{as_i32, plain_zone_of, place_of, named_zone, named_zones, final_rule, zone_list, zones_of_words, rises, all_resolved}
+use Rattle.timeline.specs.Zone.{RawRule}
+use Rattle.zoneinfo64.specs.NamedZone.{NamedZone}
+use Rattle.zoneinfo64.specs.RuleFields.{as_i32, rule_named}
+use Rattle.zoneinfo64.specs.ZoneFields.{type_offsets, integers_at, bytes_at, wide_at, zone_rule, plain_zone_of}
+use Rattle.zoneinfo64.specs.Bundle.{place_of, named_zone, named_zones, array_in, table_in, checked_zones, zone_list, zones_of_words}
 use Rattle.tell.specs.Run.{words_of, bundle_words, bundle_zones}
-use Rattle.tell.specs.Load.{up_to, zone_name, load_offset, fixed_zone, load_zone, load_zones}
+use Rattle.tell.specs.Load.{up_to, load_offset, fixed_zone, load_zone, load_zones}
 use Rattle.tell.specs.Inside.LoadTree.{zone_tree, name_tree, region_tree, load_tree}
 
 -- ---- parts of a tree
@@ -34,6 +37,10 @@ out-Integers : (v : List ℕ) → out-Resource (r.Integers v) ≡ Resource-F.Int
 out-Integers v = ap out-Resource (sym (rolls-Integers v)) ∙ out-roll-Resource (Resource-F.Integers v)
 
 -- ---- one zone
+
+-- the rule of a name, of no rules
+abbrev no_rule : List ℕ → Option RawRule
+no_rule text = rule_named text []
 
 big_word : (n : ℕ) → n ≤ 43199 → nat_lt (4294967296 - suc n) 2147483648 ≡ false
 big_word n h = grind (arith, nat_tests)
@@ -69,12 +76,12 @@ small_fits z low high = search rules
 offset_fits : (n : ℕ) → fits_i32 (load_offset n) ≡ true
 offset_fits n = small_fits (load_offset n) (offset_low n) (offset_high n)
 
-zone_read : (n : ℕ) → plain_zone_of [] (zone_tree n) ≡ Some (fixed_zone (load_offset n))
-unfolding plain_zone_of final_rule
+zone_read : (n : ℕ) → plain_zone_of no_rule (zone_tree n) ≡ Some (fixed_zone (load_offset n))
+unfolding plain_zone_of type_offsets integers_at bytes_at wide_at zone_rule
 zone_read n = simp (out-Table, out-Integers, offset_read n, no_more, offset_fits n) refl
 
-one_named : (n : ℕ) → named_zone [] (zone_tree n) (name_tree n) (region_tree n) ≡ Some (load_zone n)
-unfolding named_zone utf16_chars
+one_named : (n : ℕ) → named_zone no_rule (zone_tree n) (name_tree n) (region_tree n) ≡ Some (load_zone n)
+unfolding named_zone place_of utf16_chars
 one_named n = simp (out-Text, out-Table, zone_read n) refl
 
 -- ---- all zones
@@ -84,7 +91,7 @@ abbrev run : {A : Type 0} → (ℕ → A) → ℕ → ℕ → List A
 run f at zero = []
 run f at (suc n) = f at ∷ run f (at + 1) n
 
-all_named : (at n : ℕ) → named_zones [] (run zone_tree at n) (run name_tree at n) (run region_tree at n) ≡ Some (run load_zone at n)
+all_named : (at n : ℕ) → named_zones no_rule (run zone_tree at n) (run name_tree at n) (run region_tree at n) ≡ Some (run load_zone at n)
 all_named at zero = refl
 all_named at (suc n) = rw (one_named at, all_named (at + 1) n) refl
 
@@ -102,19 +109,20 @@ up_to-run f (suc n) =
     let place : n + 1 ≡ 1 + n = omega arith in
     ap (λ l. l ++ f (n + 1) ∷ []) (up_to-run f n) ∙ ap (λ (k : ℕ). run f 1 n ++ f k ∷ []) place ∙ sym (run-last f 1 n)
 
-zones_named : (n : ℕ) → named_zones [] (up_to zone_tree n) (up_to name_tree n) (up_to region_tree n) ≡ Some (load_zones n)
+zones_named : (n : ℕ) → named_zones no_rule (up_to zone_tree n) (up_to name_tree n) (up_to region_tree n) ≡ Some (load_zones n)
 zones_named n =
     rw (up_to-run zone_tree n, up_to-run name_tree n, up_to-run region_tree n, up_to-run load_zone n) (all_named 1 n)
 
 -- ---- the bundle
 
-when_some : {A : Type 0} (b : Bool) (x y : A) → when b x ≡ Some y → y ≡ x
-when_some true x y e = cc
-when_some false x y e = cc
+when_some : {A : Type 0} (some b : Bool) (x y : A) → cond some (when b x) None ≡ Some y → y ≡ x
+when_some true true x y e = cc
+when_some true false x y e = cc
+when_some false b x y e = cc
 
 tree_zones : (n : ℕ) (zones : List NamedZone) → zone_list (load_tree n) ≡ Some zones → zones ≡ load_zones n
-unfolding zone_list
-tree_zones n zones e = when_some _ _ _ (simp (out-Table, out-Array, zones_named n) at e)
+unfolding zone_list checked_zones array_in table_in
+tree_zones n zones e = when_some _ _ _ _ (simp (out-Table, out-Array, zones_named n) at e)
 
 from_words : (over whole : Bool) (words : List ℕ) (zones : List NamedZone) → option_and_then zones_of_words (cond over None (cond whole (Some words) None)) ≡ Some zones
     → zones_of_words words ≡ Some zones

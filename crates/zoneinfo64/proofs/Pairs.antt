@@ -4,21 +4,21 @@ use Rattle.std.proofs.lemmas.Bool.{and_parts, and_from}
 use Rattle.std.proofs.lemmas.List.{take_all}
 use Rattle.timeline.specs.Zone.{fits_i32}
 use Rattle.timeline.specs.Table.{sums_fit}
-use Rattle.zoneinfo64.specs.Bundle.{as_i32}
-use Rattle.zoneinfo64.specs.Inside.Steps.{pair_of, offset_steps}
 use Rattle.zoneinfo64.specs.Inside.Steps.{with_front}
+use Rattle.zoneinfo64.specs.RuleFields.{as_i32}
+use Rattle.zoneinfo64.specs.ZoneFields.{pair_of, offset_pairs}
 use Rattle.zoneinfo64.proofs.Fronts.{front_grows}
 
 pair_on : (front : List (ℤ × ℤ)) (a b : ℕ) (p : ℤ × ℤ) (words : List ℕ) (total : Option (List (ℤ × ℤ))) → pair_of a b ≡ Some p
-    → with_front front (offset_steps (a ∷ b ∷ words)) ≡ total → with_front (front ++ p ∷ []) (offset_steps words) ≡ total
+    → with_front front (offset_pairs (a ∷ b ∷ words)) ≡ total → with_front (front ++ p ∷ []) (offset_pairs words) ≡ total
 pair_on front a b p words total found so_far =
-    let once : with_front front (offset_steps (a ∷ b ∷ words)) ≡ with_front (front ++ p ∷ []) (offset_steps words) = rw found (front_grows front p (offset_steps words)) in
+    let once : with_front front (offset_pairs (a ∷ b ∷ words)) ≡ with_front (front ++ p ∷ []) (offset_pairs words) = rw found (front_grows front p (offset_pairs words)) in
     sym once ∙ so_far
 
 -- one more pair was read
 pub pair_read : (front now : List (ℤ × ℤ)) (words : List ℕ) (p : ℤ × ℤ) (total : Option (List (ℤ × ℤ))) → 2 ≤ length words
     → Some p ≡ pair_of (get_or words 0 0) (get_or words 1 0) → now ≡ front ++ p ∷ []
-    → with_front front (offset_steps words) ≡ total → with_front now (offset_steps (take (length words - 2) (drop 2 words))) ≡ total
+    → with_front front (offset_pairs words) ≡ total → with_front now (offset_pairs (take (length words - 2) (drop 2 words))) ≡ total
 pair_read front now [] p total long found pushed so_far = absurd (omega arith)
 pair_read front now (a ∷ []) p total long found pushed so_far = absurd (omega arith)
 pair_read front now (a ∷ b ∷ words) p total long found pushed so_far =

@@ -4,8 +4,9 @@ use Rattle.resb_tree.specs.declared.resource.Resource.{Resource}
 use Rattle.zoneinfo64.specs.declared.error.BinaryDeserializerError.{BinaryDeserializerError}
 use Rattle.zoneinfo64.specs.declared.error.BinaryDeserializerError.TheVariants as errors
 use Rattle.timeline.specs.Zone.{RawRule}
-use Rattle.zoneinfo64.specs.Bundle.{rules_of}
-use Rattle.zoneinfo64.specs.Inside.Steps.{Reads, ReadsRules, Leaves, array_in, table_in, root_steps}
+use Rattle.zoneinfo64.specs.Bundle.{array_in, table_in, zone_list}
+use Rattle.zoneinfo64.specs.Inside.Steps.{Reads, ReadsRules, Leaves}
+use Rattle.zoneinfo64.specs.RuleFields.{rules_of}
 
 -- where a part is not read, the whole is not
 pub broken : {X Y V W : Type 0} (part_view : X → V) (view : Y → W) (e : BinaryDeserializerError) (part : Option V) (whole : Option W) → (part ≡ None → whole ≡ None) → Reads part_view (Err e) part → Reads view (Err e) whole
@@ -33,20 +34,20 @@ pub rules_left : (root next later last : Resource) → Leaves (codes "Zones") ro
 unfolding table_in
 rules_left root next later last one two three = rw (three (codes "Rules") refl, two (codes "Rules") refl, one (codes "Rules") refl) refl
 
-pub no_names : (root : Resource) (zones : List Resource) → array_in (codes "Zones") root ≡ Some zones → array_in (codes "Names") root ≡ None → root_steps root ≡ None
-unfolding root_steps
+pub no_names : (root : Resource) (zones : List Resource) → array_in (codes "Zones") root ≡ Some zones → array_in (codes "Names") root ≡ None → zone_list root ≡ None
+unfolding zone_list
 no_names root zones z n = rw (z, n) refl
 
-pub no_regions : (root : Resource) (zones names : List Resource) → array_in (codes "Zones") root ≡ Some zones → array_in (codes "Names") root ≡ Some names → array_in (codes "Regions") root ≡ None → root_steps root ≡ None
-unfolding root_steps
+pub no_regions : (root : Resource) (zones names : List Resource) → array_in (codes "Zones") root ≡ Some zones → array_in (codes "Names") root ≡ Some names → array_in (codes "Regions") root ≡ None → zone_list root ≡ None
+unfolding zone_list
 no_regions root zones names z n r = rw (z, n, r) refl
 
 pub no_table : (root : Resource) (zones names regions : List Resource) → array_in (codes "Zones") root ≡ Some zones → array_in (codes "Names") root ≡ Some names → array_in (codes "Regions") root ≡ Some regions
-    → table_in (codes "Rules") root ≡ None → root_steps root ≡ None
-unfolding root_steps
+    → table_in (codes "Rules") root ≡ None → zone_list root ≡ None
+unfolding zone_list
 no_table root zones names regions z n r t = rw (z, n, r, t) refl
 
 pub no_rules : (root : Resource) (zones names regions : List Resource) (entries : List (List ℕ × Resource)) → array_in (codes "Zones") root ≡ Some zones → array_in (codes "Names") root ≡ Some names → array_in (codes "Regions") root ≡ Some regions
-    → table_in (codes "Rules") root ≡ Some entries → rules_of entries ≡ None → root_steps root ≡ None
-unfolding root_steps
+    → table_in (codes "Rules") root ≡ Some entries → rules_of entries ≡ None → zone_list root ≡ None
+unfolding zone_list
 no_rules root zones names regions entries z n r t all = rw (z, n, r, t, all) refl

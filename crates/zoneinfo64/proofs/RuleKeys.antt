@@ -15,9 +15,9 @@ use Rattle.resb_tree.specs.declared.resource.Resource.{Resource}
 use Rattle.zoneinfo64.specs.declared.error.BinaryDeserializerError.{BinaryDeserializerError}
 use Rattle.zoneinfo64.specs.declared.error.BinaryDeserializerError.TheVariants as errors
 use Rattle.timeline.specs.Zone.{RawRule}
-use Rattle.zoneinfo64.specs.Bundle.{raw_rule, rules_of, rule_named}
-use Rattle.zoneinfo64.specs.Inside.RuleView.{rule_for}
 use Rattle.zoneinfo64.specs.Inside.Steps.{Reads, ReadsRules, HasRules, rule_in}
+use Rattle.zoneinfo64.specs.RuleFields.{raw_rule, rules_of, rule_named}
+use Rattle.zoneinfo64.specs.Inside.RuleView.{rule_for}
 
 abbrev Key : Type 0
 Key = Vec ℕ Global

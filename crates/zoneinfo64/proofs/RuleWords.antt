@@ -5,7 +5,7 @@ use Rattle.std.proofs.lemmas.Bool.Decides.{nat_tests}
 use Rattle.std.specs.Prelude.{unsigned_abs, int_le, int_lt, nat_le, ◌&&◌}
 use Rattle.std.specs.Ordering.{int_eq}
 use Rattle.civil.proofs.SignedLemmas.{signed_arith, one_part}
-use Rattle.zoneinfo64.specs.Bundle.{between, longest_month, is_rule_day, as_i32, is_date, date_from, date_rule, raw_rule}
+use Rattle.zoneinfo64.specs.RuleFields.{between, longest_month, is_rule_day, as_i32, is_date, date_from, date_rule, raw_rule}
 use Rattle.timeline.specs.Zone.{DateRule, RawRule}
 use Rattle.timeline.specs.Ranges.{IsDateInRange}
 use Rattle.zoneinfo64.specs.Inside.DateWords.{by_dates}

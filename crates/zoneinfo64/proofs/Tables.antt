@@ -1,13 +1,13 @@
 -- The table of a zone as it is read: its seconds, and the numbers of its pairs.
-use Rattle.std.proofs.Common.{◌≡◌, ℕ, zero, suc, ◌+◌, ◌-◌, ◌<◌, ◌≤◌, ◌⊎◌, inl, inr, List, [], ◌∷◌, ◌++◌, length, All, take, drop, get_or, map, Option, Some, None, ℤ, pos, refl, sym, ap, ◌∙◌, append_assoc, arith}
+use Rattle.std.proofs.Common.{◌≡◌, ℕ, suc, ◌+◌, ◌-◌, ◌<◌, ◌≤◌, ◌⊎◌, inl, inr, List, [], ◌∷◌, ◌++◌, length, take, drop, get_or, map, Option, Some, None, ℤ, pos, refl, sym, ◌∙◌, append_assoc, arith}
 use Rattle.std.specs.List.{slice_get}
 use Rattle.std.proofs.lemmas.List.{take_all, append-nil}
 use Rattle.std.proofs.lemmas.List.Elements.{All-nil, All-cons}
 use Rattle.std.proofs.lemmas.Option.{slice_get-get_or, slice_get_within}
-use Rattle.timeline.specs.declared.offset.Transition.{Transition}
-use Rattle.timeline.specs.Table.{transition_to, table_from}
-use Rattle.zoneinfo64.specs.Bundle.{as_i32, table_of}
+use Rattle.timeline.specs.Table.{table_from}
 use Rattle.zoneinfo64.specs.Inside.Steps.{wide, wide_second, AreKnown}
+use Rattle.zoneinfo64.specs.RuleFields.{as_i32}
+use Rattle.zoneinfo64.specs.ZoneFields.{table_of}
 
 -- where each second has the number of a pair there is a table
 pub table_given : (pairs : List (ℤ × ℤ)) (seconds : List ℤ) (numbers : List ℕ) → AreKnown pairs seconds numbers → table_of pairs seconds numbers ≡ Some (table_from pairs seconds numbers)

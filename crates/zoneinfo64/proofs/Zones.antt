@@ -8,7 +8,8 @@ use Rattle.resb_tree.specs.declared.resource.Resource.{Resource}
 use Rattle.zoneinfo64.specs.declared.zone.Named.{Named}
 use Rattle.timeline.specs.Zone.{RawRule}
 use Rattle.zoneinfo64.specs.NamedZone.{NamedZone}
-use Rattle.zoneinfo64.specs.Inside.Steps.{Reads, named_steps, list_steps}
+use Rattle.zoneinfo64.specs.Bundle.{named_zone, named_zones}
+use Rattle.zoneinfo64.specs.Inside.Steps.{Reads}
 use Rattle.zoneinfo64.specs.Inside.ZoneList.{named_of, zones_of}
 use Rattle.zoneinfo64.proofs.Bundles.{in_a_row, none_after}
 
@@ -31,7 +32,7 @@ zones_of-reverse (e ∷ entries) =
 
 -- the last zone is read after those before it
 pub list_back : (find : Find) (zones names regions : List Resource) (zone name region : Resource) → length names ≡ length zones → length regions ≡ length zones
-    → list_steps find (zones ++ zone ∷ []) (names ++ name ∷ []) (regions ++ region ∷ []) ≡ (list_steps find zones names regions >>= λ xs. named_steps find zone name region >>= λ x. Some (xs ++ x ∷ []))
+    → named_zones find (zones ++ zone ∷ []) (names ++ name ∷ []) (regions ++ region ∷ []) ≡ (named_zones find zones names regions >>= λ xs. named_zone find zone name region >>= λ x. Some (xs ++ x ∷ []))
 list_back find [] [] [] zone name region n r = refl
 list_back find [] [] (b ∷ regions) zone name region n r = absurd (omega arith)
 list_back find [] (m ∷ names) regions zone name region n r = absurd (omega arith)
@@ -75,7 +76,7 @@ pub fewer_names_left : (zones fewer_zones names fewer_names regions : List Resou
 fewer_names_left zones fewer_zones names fewer_names regions at zone name region t = omega (arith, ap length t.name_last, length-append fewer_names (name ∷ []), t.names_left)
 
 turned : (find : Find) (zones fewer_zones names fewer_names regions : List Resource) (at : ℕ) (zone name region : Resource) → Turn zones fewer_zones names fewer_names regions at zone name region
-    → list_steps find zones names (take at regions) ≡ (list_steps find fewer_zones fewer_names (take (at - 1) regions) >>= λ xs. named_steps find zone name region >>= λ x. Some (xs ++ x ∷ []))
+    → named_zones find zones names (take at regions) ≡ (named_zones find fewer_zones fewer_names (take (at - 1) regions) >>= λ xs. named_zone find zone name region >>= λ x. Some (xs ++ x ∷ []))
 turned find zones fewer_zones names fewer_names regions at zone name region t =
     let few = fewer_zones_left zones fewer_zones names fewer_names regions at zone name region t in
     let few_names = fewer_names_left zones fewer_zones names fewer_names regions at zone name region t in
@@ -85,27 +86,27 @@ turned find zones fewer_zones names fewer_names regions at zone name region t =
 
 -- one more zone was read
 pub zone_read : (find : Find) (entries now : List Named) (e : Named) (zones fewer_zones names fewer_names regions : List Resource) (at : ℕ) (zone name region : Resource) (total : Option (List NamedZone))
-    → Turn zones fewer_zones names fewer_names regions at zone name region → named_steps find zone name region ≡ Some (named_of e) → now ≡ entries ++ e ∷ []
-    → with_back (reverse (zones_of entries)) (list_steps find zones names (take at regions)) ≡ total
-    → with_back (reverse (zones_of now)) (list_steps find fewer_zones fewer_names (take (at - 1) regions)) ≡ total
+    → Turn zones fewer_zones names fewer_names regions at zone name region → named_zone find zone name region ≡ Some (named_of e) → now ≡ entries ++ e ∷ []
+    → with_back (reverse (zones_of entries)) (named_zones find zones names (take at regions)) ≡ total
+    → with_back (reverse (zones_of now)) (named_zones find fewer_zones fewer_names (take (at - 1) regions)) ≡ total
 zone_read find entries now e zones fewer_zones names fewer_names regions at zone name region total t read pushed so_far =
-    let others = list_steps find fewer_zones fewer_names (take (at - 1) regions) in
+    let others = named_zones find fewer_zones fewer_names (take (at - 1) regions) in
     let back : reverse (zones_of now) ≡ named_of e ∷ reverse (zones_of entries) = rw (pushed, zones_of-push entries e) (reverse-append (zones_of entries) (named_of e ∷ [])) in
-    let once : with_back (reverse (zones_of entries)) (list_steps find zones names (take at regions)) ≡ with_back (named_of e ∷ reverse (zones_of entries)) others =
+    let once : with_back (reverse (zones_of entries)) (named_zones find zones names (take at regions)) ≡ with_back (named_of e ∷ reverse (zones_of entries)) others =
     rw (turned find zones fewer_zones names fewer_names regions at zone name region t, read) (back_grows (reverse (zones_of entries)) (named_of e) others) in
     rw back (sym once ∙ so_far)
 
 -- or a rule is broken, and there is no list
 pub zone_broken : (find : Find) (entries : List Named) (zones fewer_zones names fewer_names regions : List Resource) (at : ℕ) (zone name region : Resource) (total : Option (List NamedZone))
-    → Turn zones fewer_zones names fewer_names regions at zone name region → named_steps find zone name region ≡ None
-    → with_back (reverse (zones_of entries)) (list_steps find zones names (take at regions)) ≡ total → total ≡ None
+    → Turn zones fewer_zones names fewer_names regions at zone name region → named_zone find zone name region ≡ None
+    → with_back (reverse (zones_of entries)) (named_zones find zones names (take at regions)) ≡ total → total ≡ None
 zone_broken find entries zones fewer_zones names fewer_names regions at zone name region total t broken so_far =
-    let none : list_steps find zones names (take at regions) ≡ None = rw (turned find zones fewer_zones names fewer_names regions at zone name region t, broken) (none_after (list_steps find fewer_zones fewer_names (take (at - 1) regions))) in
+    let none : named_zones find zones names (take at regions) ≡ None = rw (turned find zones fewer_zones names fewer_names regions at zone name region t, broken) (none_after (named_zones find fewer_zones fewer_names (take (at - 1) regions))) in
     sym so_far ∙ back_none (reverse (zones_of entries)) _ none
 
 pub broken_list : {X Y : Type 0} (view : X → List NamedZone) (one : Y → NamedZone) (e : BinaryDeserializerError) (find : Find) (entries : List Named) (zones fewer_zones names fewer_names regions : List Resource) (at : ℕ) (zone name region : Resource) (total : Option (List NamedZone))
-    → Turn zones fewer_zones names fewer_names regions at zone name region → Reads one (Err e) (named_steps find zone name region)
-    → with_back (reverse (zones_of entries)) (list_steps find zones names (take at regions)) ≡ total → Reads view (Err e) total
+    → Turn zones fewer_zones names fewer_names regions at zone name region → Reads one (Err e) (named_zone find zone name region)
+    → with_back (reverse (zones_of entries)) (named_zones find zones names (take at regions)) ≡ total → Reads view (Err e) total
 broken_list view one errors.Memory find entries zones fewer_zones names fewer_names regions at zone name region total t read so_far = tt
 broken_list view one errors.Rules find entries zones fewer_zones names fewer_names regions at zone name region total t read so_far =
     zone_broken find entries zones fewer_zones names fewer_names regions at zone name region total t read so_far
@@ -113,7 +114,7 @@ broken_list view one errors.Tree find entries zones fewer_zones names fewer_name
 
 -- all zones were read
 pub list_whole : (find : Find) (entries now : List Named) (zones names regions : List Resource) (at : ℕ) (total : Option (List NamedZone)) → at ≡ 0 → length zones ≡ at → length names ≡ at → now ≡ reverse entries
-    → with_back (reverse (zones_of entries)) (list_steps find zones names (take at regions)) ≡ total → total ≡ Some (zones_of now)
+    → with_back (reverse (zones_of entries)) (named_zones find zones names (take at regions)) ≡ total → total ≡ Some (zones_of now)
 list_whole find entries now [] [] regions at total none z n turned_round so_far =
     let back : zones_of now ≡ reverse (zones_of entries) = ap zones_of turned_round ∙ zones_of-reverse entries in
     let first : take at regions ≡ [] = rw none refl in

@@ -1,4 +1,6 @@
 pub mod NamedZone
+pub mod RuleFields
+pub mod ZoneFields
 pub mod Bundle
 pub mod Texts
 pub mod Promises

@@ -2,9 +2,9 @@
 ghost use Rattle.std.specs.Prelude.{◌≡◌, length, All, IfOk, is_some};
 ghost use Rattle.zoneinfo64.specs.NamedZone.{zone_at};
 ghost use Rattle.resb_tree.specs.Header.{tree_of};
-ghost use Rattle.zoneinfo64.specs.Bundle.{rises, is_resolved, all_resolved};
+ghost use Rattle.zoneinfo64.specs.Bundle.{rises, is_resolved, all_resolved, place_of, named_zone, named_zones, array_in, table_in, are_arrays, checked_zones, zone_list, zones_of_words};
+ghost use Rattle.zoneinfo64.specs.Inside.Steps.{Reads, Leaves, is_before};
 ghost use Rattle.zoneinfo64.specs.Inside.RuleView.{rule_for};
-ghost use Rattle.zoneinfo64.specs.Inside.Steps.{Reads, place_steps, named_steps, list_steps, array_in, table_in, Leaves, is_before, are_arrays, checked_steps, root_steps};
 ghost use Rattle.zoneinfo64.specs.Inside.ZoneList.{zones_of, named_of, place_of_item, HasText, AreEntries};
 
 use crate::error::BinaryDeserializerError;
@@ -17,9 +17,9 @@ use sqlite_items::Items;
 use std::alloc::Global;
 
 /// A zone, or the place of one.
-#[tactic(auto, unfolding(crate::specs::Inside::Steps::place_steps))]
+#[tactic(auto, unfolding(crate::specs::Bundle::place_of))]
 fn item(alloc: Global, rules: &Rules, zone: Resource) -> Result<Item, BinaryDeserializerError>
-    ensures { Reads place_of_item result (place_steps (rule_for rules.now) zone) }
+    ensures { Reads place_of_item result (place_of (rule_for rules.now) zone) }
 {
     match zone.index() {
         Some(place) => Ok(Item::Alias(place)),
@@ -31,7 +31,7 @@ fn item(alloc: Global, rules: &Rules, zone: Resource) -> Result<Item, BinaryDese
 }
 
 /// One zone with its name and region. The units of the name are moved.
-#[tactic(auto, unfolding(crate::specs::Inside::Steps::named_steps))]
+#[tactic(auto, unfolding(crate::specs::Bundle::named_zone))]
 fn named(
     alloc: Global,
     rules: &Rules,
@@ -39,7 +39,7 @@ fn named(
     name: Resource,
     region: &Resource,
 ) -> Result<Named, BinaryDeserializerError>
-    ensures zone { Reads named_of result (named_steps (rule_for rules.now) zone name region.now) }
+    ensures zone { Reads named_of result (named_zone (rule_for rules.now) zone name region.now) }
     ensures text { IfOk result HasText }
 {
     let Some(units) = name.into_text() else {
@@ -72,7 +72,7 @@ fn named_zones(
     requires names { length names ≡ length zones }
     requires regions { length regions.now ≡ length zones }
     ensures zones { Reads (λ v. zones_of v.items) result
-        (list_steps (rule_for rules.now) zones names regions.now) }
+        (named_zones (rule_for rules.now) zones names regions.now) }
     ensures texts { IfOk result (λ v. All HasText v.items) }
 {
     let mut entries = Vec::with_capacity(alloc, regions.len())?;
@@ -112,7 +112,7 @@ fn rises(entries: &[Named]) -> bool
 }
 
 /// Takes an array out of the root.
-#[tactic(auto, unfolding(crate::specs::Inside::Steps::array_in))]
+#[tactic(auto, unfolding(crate::specs::Bundle::array_in))]
 fn array(root: &mut Resource, key: &[u8]) -> Result<Items<Resource>, BinaryDeserializerError>
     ensures items { Reads (λ items. items) result (array_in key.now root.old) }
     ensures others { Leaves key.now root.old root.new }
@@ -126,7 +126,7 @@ fn array(root: &mut Resource, key: &[u8]) -> Result<Items<Resource>, BinaryDeser
     }
 }
 
-#[tactic(auto, unfolding(crate::specs::Inside::Steps::table_in))]
+#[tactic(auto, unfolding(crate::specs::Bundle::table_in))]
 fn table<'a>(
     root: &'a Resource,
     key: &[u8],
@@ -184,7 +184,7 @@ fn are_arrays(zones: &[Resource], names: &[Resource], regions: &[Resource]) -> b
 }
 
 /// The zones of three arrays.
-#[tactic(auto, unfolding(crate::specs::Inside::Steps::checked_steps))]
+#[tactic(auto, unfolding(crate::specs::Bundle::checked_zones))]
 fn checked_zones(
     alloc: Global,
     rules: &Rules,
@@ -193,7 +193,7 @@ fn checked_zones(
     regions: &[Resource],
 ) -> Result<Vec<Named>, BinaryDeserializerError>
     ensures zones { Reads (λ v. zones_of v.items) result
-        (checked_steps (rule_for rules.now) zones names regions.now) }
+        (checked_zones (rule_for rules.now) zones names regions.now) }
     ensures entries { IfOk result (λ v. AreEntries v.items) }
 {
     if !are_arrays(zones.as_slice(), names.as_slice(), regions) {
@@ -208,9 +208,9 @@ fn checked_zones(
 }
 
 /// The zones of the tree of a bundle.
-#[tactic(auto, unfolding(crate::specs::Inside::Steps::root_steps))]
+#[tactic(auto, unfolding(crate::specs::Bundle::zone_list))]
 fn zones_in(alloc: Global, mut root: Resource) -> Result<Vec<Named>, BinaryDeserializerError>
-    ensures zones { Reads (λ v. zones_of v.items) result (root_steps root) }
+    ensures zones { Reads (λ v. zones_of v.items) result (zone_list root) }
     ensures entries { IfOk result (λ v. AreEntries v.items) }
 {
     let zones = array(&mut root, b"Zones")?;
@@ -222,7 +222,6 @@ fn zones_in(alloc: Global, mut root: Resource) -> Result<Vec<Named>, BinaryDeser
 
 impl ZoneInfo64 {
     ghost use Rattle.std.specs.Prelude.{◌≡◌, Some, None, IsSome, IfOk, IsErrOf};
-    ghost use Rattle.zoneinfo64.specs.Bundle.{zones_of_words};
     ghost use Rattle.zoneinfo64.specs.declared.error.BinaryDeserializerError.TheVariants as errors;
 
     /// Reads the zones of a bundle.

@@ -2,9 +2,11 @@
 ghost use Rattle.std.specs.Prelude.{◌≡◌, ℕ, ◌+◌, ◌<◌, ◌≤◌, ◌++◌, ◌↔◌, All, map, IsTrue, IfOk, IfSome, length, vec_len, vec_capacity};
 ghost use Rattle.resb_tree.specs.Fields.{field_in, integers_in};
 ghost use Rattle.timeline.specs.Table.{sums_fit};
-ghost use Rattle.zoneinfo64.specs.Bundle.{as_i32, region_byte, region_byte_at, region_of_chars};
+ghost use Rattle.zoneinfo64.specs.Bundle.{region_byte, region_byte_at, region_of};
+ghost use Rattle.zoneinfo64.specs.Inside.Steps.{Reads, wide, wide_second, seconds_of, plain_seconds, AreKnown, Leaves};
+ghost use Rattle.zoneinfo64.specs.RuleFields.{as_i32, used_rule};
+ghost use Rattle.zoneinfo64.specs.ZoneFields.{pair_of, offset_pairs, type_offsets, integers_at, bytes_at, wide_at, zone_rule, plain_zone_of};
 ghost use Rattle.zoneinfo64.specs.Inside.RuleView.{rule_for};
-ghost use Rattle.zoneinfo64.specs.Inside.Steps.{Reads, pair_of, offset_steps, type_offsets, integers_at, bytes_at, wide, wide_second, wide_at, seconds_of, plain_seconds, AreKnown, Leaves, used_rule, zone_rule, zone_steps};
 
 use crate::error::BinaryDeserializerError;
 use crate::region::Region;
@@ -32,8 +34,9 @@ fn region_byte_at(units: &[u16], n: usize) -> u8
 }
 
 /// The region of a text: two capitals, or three digits.
+#[tactic(auto, using(crate::proofs::Regions::region_is))]
 pub fn region_of(units: &[u16]) -> Option<Region>
-    ensures { result ≡ region_of_chars units.now }
+    ensures { result ≡ region_of units.now }
 {
     // A pair of surrogates is one character, which counts as 0, and so do its units.
     Region::try_from_raw([
@@ -62,7 +65,7 @@ fn pair_of(standard: u32, extra: u32) -> Option<(i32, i32)>
 
 /// The pairs of words, standard offset and extra.
 fn offset_pairs(alloc: Global, words: &[u32]) -> Result<Vec<(i32, i32)>, BinaryDeserializerError>
-    ensures pairs { Reads (λ v. v.items) result (offset_steps words.now) }
+    ensures pairs { Reads (λ v. v.items) result (offset_pairs words.now) }
     ensures fit { IfOk result (λ v. IsTrue (sums_fit v.items)) }
 {
     let mut pairs = Vec::with_capacity(alloc, words.len() / 2)?;
@@ -81,7 +84,7 @@ fn offset_pairs(alloc: Global, words: &[u32]) -> Result<Vec<(i32, i32)>, BinaryD
     }
 }
 
-#[tactic(auto, unfolding(crate::specs::Inside::Steps::type_offsets))]
+#[tactic(auto, unfolding(crate::specs::ZoneFields::type_offsets))]
 fn type_offsets(alloc: Global, zone: &Resource) -> Result<Vec<(i32, i32)>, BinaryDeserializerError>
     ensures pairs { Reads (λ v. v.items) result (type_offsets zone.now) }
     ensures fit { IfOk result (λ v. IsTrue (sums_fit v.items)) }
@@ -96,7 +99,7 @@ fn type_offsets(alloc: Global, zone: &Resource) -> Result<Vec<(i32, i32)>, Binar
 }
 
 /// A list of integers, empty where it is missing.
-#[tactic(auto, unfolding(crate::specs::Inside::Steps::integers_at))]
+#[tactic(auto, unfolding(crate::specs::ZoneFields::integers_at))]
 fn integers<'a>(zone: &'a Resource, key: &[u8]) -> Result<&'a [u32], BinaryDeserializerError>
     ensures { Reads (λ r. r.now) result (integers_at key.now zone.now) }
 {
@@ -110,7 +113,7 @@ fn integers<'a>(zone: &'a Resource, key: &[u8]) -> Result<&'a [u32], BinaryDeser
 }
 
 /// A list of bytes, empty where it is missing.
-#[tactic(auto, unfolding(crate::specs::Inside::Steps::bytes_at))]
+#[tactic(auto, unfolding(crate::specs::ZoneFields::bytes_at))]
 fn bytes<'a>(zone: &'a Resource, key: &[u8]) -> Result<&'a [u8], BinaryDeserializerError>
     ensures { Reads (λ r. r.now) result (bytes_at key.now zone.now) }
 {
@@ -124,7 +127,7 @@ fn bytes<'a>(zone: &'a Resource, key: &[u8]) -> Result<&'a [u8], BinaryDeseriali
 }
 
 /// The words of a list of seconds, two each, empty where it is missing.
-#[tactic(auto, unfolding(crate::specs::Inside::Steps::wide_at))]
+#[tactic(auto, unfolding(crate::specs::ZoneFields::wide_at))]
 fn wide<'a>(zone: &'a Resource, key: &[u8]) -> Result<&'a [u32], BinaryDeserializerError>
     ensures { Reads (λ r. wide r.now) result (wide_at key.now zone.now) }
 {
@@ -229,7 +232,7 @@ fn are_entries(
 }
 
 /// The rule that a zone names.
-#[tactic(auto, unfolding(crate::specs::Inside::Steps::used_rule))]
+#[tactic(auto, unfolding(crate::specs::RuleFields::used_rule))]
 fn used_rule(
     rules: &Rules,
     key: &Resource,
@@ -257,7 +260,7 @@ fn used_rule(
 }
 
 /// The rule of a zone, if it has the three fields of one.
-#[tactic(auto, unfolding(crate::specs::Inside::Steps::zone_rule))]
+#[tactic(auto, unfolding(crate::specs::ZoneFields::zone_rule))]
 fn zone_rule(rules: &Rules, zone: &Resource) -> Result<Option<ZoneRule>, BinaryDeserializerError>
     ensures { Reads (λ r. r) result (zone_rule (rule_for rules.now) zone.now) }
 {
@@ -275,7 +278,7 @@ fn zone_rule(rules: &Rules, zone: &Resource) -> Result<Option<ZoneRule>, BinaryD
 }
 
 /// Takes a list of bytes out of a zone, empty where it is missing.
-#[tactic(auto, unfolding(crate::specs::Inside::Steps::bytes_at))]
+#[tactic(auto, unfolding(crate::specs::ZoneFields::bytes_at))]
 fn taken_bytes(alloc: Global, zone: &mut Resource, key: &[u8]) -> Items<u8>
     ensures value { IfSome (bytes_at key.now zone.old) (λ bytes. result ≡ bytes) }
     ensures others { Leaves key.now zone.old zone.new }
@@ -290,7 +293,7 @@ fn taken_bytes(alloc: Global, zone: &mut Resource, key: &[u8]) -> Items<u8>
 }
 
 /// Takes a list of integers out of a zone, empty where it is missing.
-#[tactic(auto, unfolding(crate::specs::Inside::Steps::integers_at))]
+#[tactic(auto, unfolding(crate::specs::ZoneFields::integers_at))]
 fn taken_integers(alloc: Global, zone: &mut Resource, key: &[u8]) -> Items<u32>
     ensures { IfSome (integers_at key.now zone.old) (λ words. result ≡ words) }
 {
@@ -304,13 +307,13 @@ fn taken_integers(alloc: Global, zone: &mut Resource, key: &[u8]) -> Items<u32>
 }
 
 /// A zone from the table of its fields.
-#[tactic(auto, unfolding(crate::specs::Inside::Steps::zone_steps))]
+#[tactic(auto, unfolding(crate::specs::ZoneFields::plain_zone_of))]
 pub fn zone_data(
     alloc: Global,
     rules: &Rules,
     mut zone: Resource,
 ) -> Result<ZoneData, BinaryDeserializerError>
-    ensures { Reads (λ z. z) result (zone_steps (rule_for rules.now) zone) }
+    ensures { Reads (λ z. z) result (plain_zone_of (rule_for rules.now) zone) }
 {
     let type_offsets = type_offsets(alloc, &zone)?;
     let pairs = type_offsets.as_slice();

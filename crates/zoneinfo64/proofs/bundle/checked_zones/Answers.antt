@@ -1,7 +1,7 @@
 use Rattle.std.proofs.Common.{◌≡◌, true, sym, arith}
 use Rattle.std.proofs.lemmas.List.{length-map}
 use Rattle.zoneinfo64.specs.Inside.RuleView.{rule_for}
-use Rattle.zoneinfo64.specs.Inside.Steps.{are_arrays}
+use Rattle.zoneinfo64.specs.Bundle.{are_arrays}
 use Rattle.zoneinfo64.specs.Inside.ZoneList.{zones_of, named_of}
 use Rattle.zoneinfo64.proofs.Bundles.{list_is_few}
 use Rattle.zoneinfo64.proofs.bundle.checked_zones.Goals as goal

@@ -6,7 +6,7 @@ use Rattle.std.proofs.lemmas.Result.{err_from_is_err_and}
 use Rattle.resb_tree.specs.declared.resource.Resource.{Resource}
 use Rattle.zoneinfo64.specs.declared.zone.Named.{Named}
 use Rattle.zoneinfo64.specs.Inside.RuleView.{rule_for}
-use Rattle.zoneinfo64.specs.Inside.Steps.{array_in, table_in, root_steps}
+use Rattle.zoneinfo64.specs.Bundle.{array_in, table_in, zone_list}
 use Rattle.zoneinfo64.specs.Inside.ZoneList.{zones_of}
 use Rattle.zoneinfo64.proofs.Bundles.{root_with}
 use Rattle.zoneinfo64.proofs.Roots.{broken, rules_broken, names_left, regions_left, rules_left, no_names, no_regions, no_table, no_rules}
@@ -39,7 +39,7 @@ returns-in_err-rules-clause-zones c =
     let names = names_left c.args.root c.array.new.root c.in_ok-zones.ensures.others in
     let regions = regions_left c.args.root c.array.new.root c.array-2.new.root c.in_ok-zones.ensures.others c.in_ok-names.ensures.others in
     let rules = rules_left c.args.root c.array.new.root c.array-2.new.root c.array-3.new.root c.in_ok-zones.ensures.others c.in_ok-names.ensures.others c.in_ok-regions.ensures.others in
-    rw (p.1, p.2) (rules_broken {Y = Vec Named Global} (λ v. zones_of v.items) _ _ (root_steps c.args.root) (λ none. no_rules c.args.root c.in_ok-zones.zones c.in_ok-names.names c.in_ok-regions.regions c.in_ok-table.field-0.now c.in_ok-zones.ensures.items (sym names ∙ c.in_ok-names.ensures.items) (sym regions ∙ c.in_ok-regions.ensures.items) (sym rules ∙ c.in_ok-table.ensures) none) c.in_err-rules.ensures)
+    rw (p.1, p.2) (rules_broken {Y = Vec Named Global} (λ v. zones_of v.items) _ _ (zone_list c.args.root) (λ none. no_rules c.args.root c.in_ok-zones.zones c.in_ok-names.names c.in_ok-regions.regions c.in_ok-table.field-0.now c.in_ok-zones.ensures.items (sym names ∙ c.in_ok-names.ensures.items) (sym regions ∙ c.in_ok-regions.ensures.items) (sym rules ∙ c.in_ok-table.ensures) none) c.in_err-rules.ensures)
 
 pub returns-clause-zones : goal.returns-clause-zones
 returns-clause-zones c =

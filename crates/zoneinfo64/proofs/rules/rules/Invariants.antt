@@ -1,6 +1,6 @@
 use Rattle.std.proofs.Common.{◌≤◌, length, drop}
-use Rattle.zoneinfo64.specs.Bundle.{rules_of}
 use Rattle.zoneinfo64.specs.Inside.Steps.{HasRules}
+use Rattle.zoneinfo64.specs.RuleFields.{rules_of}
 use Rattle.zoneinfo64.proofs.rules.rules.Given as goal
 
 -- the rules from here on were put in
