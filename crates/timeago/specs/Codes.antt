@@ -4,6 +4,7 @@ use Rattle.std.specs.Str.{bytes_eq}
 use Rattle.tongues.specs.declared.any.AnyLanguage.{AnyLanguage}
 use Rattle.tongues.specs.declared.any.AnyLanguage.TheVariants as any
 
+-- the language that has this code of ISO 639-1, in lower case; Basque has none
 abbrev pub coded_language : List ℕ → Option AnyLanguage
 coded_language code =
     if bytes_eq code (codes "be") then Some (any.Belarusian (record {})) else (

@@ -18,9 +18,11 @@ biggest rest =
     if nat_le (unit_size u.Milliseconds) rest then u.Milliseconds else (
     if nat_le (unit_size u.Microseconds) rest then u.Microseconds else u.Nanoseconds))))))))
 
+-- the smaller of two units
 abbrev pub lower : TimeUnit → TimeUnit → TimeUnit
 lower a b = if nat_le (unit_size a) (unit_size b) then a else b
 
+-- the bigger of two units
 abbrev pub higher : TimeUnit → TimeUnit → TimeUnit
 higher a b = if nat_le (unit_size a) (unit_size b) then b else a
 

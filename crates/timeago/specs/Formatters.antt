@@ -4,6 +4,7 @@ use Rattle.std.specs.Duration.{as_nanos}
 use Rattle.timeago.specs.Settings.{Settings}
 use Rattle.timeago.specs.declared.formatter.Formatter.{Formatter}
 
+-- what a formatter is set to, with None for each word that is the language's
 abbrev pub settings_of : {L : Type 0} → Formatter L → Settings
 settings_of f = record {
   items = f.num_items;
@@ -15,5 +16,6 @@ settings_of f = record {
   past = option_copied f.ago;
 }
 
+-- the language that a formatter tells
 abbrev pub language_of : {L : Type 0} → Formatter L → L
 language_of f = f.language

@@ -11,6 +11,7 @@ use Rattle.tongues.specs.declared.unit.TimeUnit.{TimeUnit}
 abbrev pub count_in : TimeUnit → ℕ → ℕ
 count_in unit rest = min (rest / unit_size unit) u64_max
 
+-- the unit and the count that are told of a rest
 abbrev pub next_told : Settings → ℕ → TimeUnit × ℕ
 next_told f rest = (allowed_unit f rest, count_in (allowed_unit f rest) rest)
 
@@ -39,6 +40,7 @@ abbrev pub past_before : Speech → List ℕ → List ℕ
 past_before s [] = []
 past_before s (b ∷ word) = if s.past_first then (b ∷ word) ++ s.near_past else []
 
+-- what stands behind a text for the word for the past; an empty word adds nothing
 abbrev pub past_behind : Speech → List ℕ → List ℕ
 past_behind s [] = []
 past_behind s (b ∷ word) = if s.past_first then [] else s.near_past ++ b ∷ word

@@ -8,6 +8,7 @@ use Rattle.tongues.specs.declared.unit.TimeUnit.TheVariants as u
 use Rattle.timeago.specs.declared.style.Style.{Style}
 use Rattle.timeago.specs.declared.style.Style.TheVariants as styles
 
+-- LONG tells down to nanoseconds, HUMAN `just now` for what is too low, SHORT whole seconds in five characters
 abbrev pub IsStyled : Style → ℕ → List ℕ → Type 0
 IsStyled styles.LONG distance text = IsWords english (record default_settings { min_unit = u.Nanoseconds }) distance text
 IsStyled styles.HUMAN distance text = IsWords english (record default_settings { low = Some (codes "just now") }) distance text

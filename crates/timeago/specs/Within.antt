@@ -12,6 +12,7 @@ abbrev pub told_nanos : List (TimeUnit × ℕ) → ℕ
 told_nanos [] = 0
 told_nanos (told ∷ others) = told.1 * unit_size told.0 + told_nanos others
 
+-- the last of a count and those after it
 abbrev pub last_of : TimeUnit × ℕ → List (TimeUnit × ℕ) → TimeUnit × ℕ
 last_of told [] = told
 last_of told (next ∷ others) = last_of next others

@@ -12,6 +12,7 @@ chunk s told =
     if s.unit_first told.1 then s.word told.0 told.1 ++ s.between_value_and_word ++ decimal told.1
     else decimal told.1 ++ s.between_value_and_word ++ s.word told.0 told.1
 
+-- the chunks, with the language's space between two of them
 abbrev pub joined : Speech → List (TimeUnit × ℕ) → List ℕ
 joined s [] = []
 joined s (told ∷ []) = chunk s told
