@@ -7,6 +7,7 @@ use Rattle.civil.specs.declared.datetime.NaiveDateTime.{NaiveDateTime}
 abbrev pub second_of_day : NaiveTime → ℕ
 second_of_day t = t.second
 
+-- the nanoseconds after that second; in a leap second they pass 999,999,999
 abbrev pub nanos_of_time : NaiveTime → ℕ
 nanos_of_time t = t.nanos
 
@@ -14,5 +15,6 @@ nanos_of_time t = t.nanos
 abbrev pub wall_of : NaiveDateTime → ℤ
 wall_of t = t.second
 
+-- the nanoseconds after the wall second
 abbrev pub nanos_of : NaiveDateTime → ℕ
 nanos_of t = t.nanos

@@ -3,6 +3,7 @@ use Rattle.std.specs.Prelude.{ℕ}
 use Rattle.civil.specs.declared.weekday.Weekday.{Weekday}
 use Rattle.civil.specs.declared.weekday.Weekday.TheVariants.{Mon, Tue, Wed, Thu, Fri, Sat, Sun}
 
+-- how many days a weekday is after Monday
 abbrev pub days_from_monday : Weekday → ℕ
 days_from_monday Mon = 0
 days_from_monday Tue = 1

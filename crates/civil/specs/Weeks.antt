@@ -9,8 +9,10 @@ pub record IsWeekOf (day y : ℤ) (week : ℕ) : Type 0 where
   pub from : (year_start y +ℤ pos (7 * (week - 1))) ≤ℤ thursday_of day
   pub to : thursday_of day <ℤ (year_start y +ℤ pos (7 * week))
 
+-- the year that a week belongs to
 abbrev pub week_year : IsoWeek → ℤ
 week_year w = w.year
 
+-- the week's number in that year, from 1 on
 abbrev pub week_number : IsoWeek → ℕ
 week_number w = w.week
