@@ -32,6 +32,7 @@ civil_map f (Civil.Single o) = Civil.Single (f o)
 civil_map f (Civil.Ambiguous b a) = Civil.Ambiguous (f b) (f a)
 civil_map f (Civil.Gap b a) = Civil.Gap (f b) (f a)
 
+-- the same of an answer that leaves out the offsets of a gap
 abbrev pub mapped_map : {A B : Type 0} → (A → B) → MappedLocalTime A → MappedLocalTime B
 mapped_map f Mapped.None = Mapped.None
 mapped_map f (Mapped.Single o) = Mapped.Single (f o)
@@ -43,6 +44,7 @@ AllCivil P (Civil.Single o) = P o
 AllCivil P (Civil.Ambiguous b a) = P b × P a
 AllCivil P (Civil.Gap b a) = P b × P a
 
+-- each value of an answer that leaves out the offsets of a gap
 abbrev pub AllMapped : {A : Type 0} → (A → Type 0) → MappedLocalTime A → Type 0
 AllMapped P Mapped.None = Unit {0}
 AllMapped P (Mapped.Single o) = P o
@@ -64,11 +66,13 @@ single_of Mapped.None = None
 single_of (Mapped.Single o) = Some o
 single_of (Mapped.Ambiguous b a) = None
 
+-- the one value, or the first of two; none in a gap
 abbrev pub earliest_of : {A : Type 0} → MappedLocalTime A → Option A
 earliest_of Mapped.None = None
 earliest_of (Mapped.Single o) = Some o
 earliest_of (Mapped.Ambiguous b a) = Some b
 
+-- the one value, or the second of two; none in a gap
 abbrev pub latest_of : {A : Type 0} → MappedLocalTime A → Option A
 latest_of Mapped.None = None
 latest_of (Mapped.Single o) = Some o

@@ -2,6 +2,7 @@
 use Rattle.std.specs.Prelude.{ℕ, ◌/◌, ◌%◌, ◌==◌, List, ◌∷◌, ◌++◌, codes, if◌then◌else◌, ℤ, pos, int_lt, unsigned_abs}
 use Rattle.std.specs.Fmt.{decimal}
 
+-- a minus below 0, and else a plus
 abbrev pub offset_sign : ℤ → List ℕ
 offset_sign seconds = if int_lt seconds (pos 0) then codes "-" else codes "+"
 
@@ -16,5 +17,6 @@ clock_text n =
     then two_digits (n / 3600) (58 ∷ (decimal (n / 60 % 60 / 10) ++ decimal (n / 60 % 60 % 10)))
     else two_digits (n / 3600) (58 ∷ two_digits (n / 60 % 60) (58 ∷ (decimal (n % 60 / 10) ++ decimal (n % 60 % 10))))
 
+-- the sign of an offset of so many seconds, then its hours, minutes and, where it has any, seconds
 abbrev pub offset_text : ℤ → List ℕ
 offset_text seconds = offset_sign seconds ++ clock_text (unsigned_abs seconds)
