@@ -3,6 +3,7 @@ use Rattle.std.specs.Prelude.{ℕ}
 use Rattle.streams.specs.declared.status.Status.{Status}
 use Rattle.streams.specs.declared.status.Status.TheVariants.{Done, Usage, Bundle, ReadFault, WriteFault, Memory, TooLong}
 
+-- what the system is told when the program ends
 abbrev pub code_of : Status → ℕ
 code_of Done = 0
 code_of Usage = 2

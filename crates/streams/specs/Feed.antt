@@ -20,10 +20,11 @@ pub record Drain : Type 0 where
 abbrev pub next_call : ℕ → ℕ
 next_call calls = min (calls + 1) (2 ^ 64 - 1)
 
--- a source of these bytes and a sink with this room, before their first calls
+-- a source of these bytes, before its first call
 abbrev pub new_feed : List ℕ → List ℕ → Feed
 new_feed bytes fails = record { left = bytes; fails = fails; calls = 0; faults = 0 }
 
+-- a sink with this room, before its first call
 abbrev pub new_drain : ℕ → List ℕ → Drain
 new_drain room fails = record { written = []; room = room; fails = fails; calls = 0; faults = 0 }
 
