@@ -16,6 +16,7 @@ use Rattle.jiff_tz.specs.Zone.{ambiguous_at}
 use Rattle.jiff_tz.specs.declared.timezone.TimeZone.{TimeZone}
 use Rattle.jiff_zoned.proofs.SameLemmas.{same_datetime}
 use Rattle.jiff_zoned.specs.declared.zoned.Zoned.{Zoned}
+use Rattle.interim.specs.Inside.JiffBounds.{LiesIn}
 use Rattle.interim.specs.Jiff.{jiff_seconds, instant, second_of, fraction_of, IsPlacedBy, IsWallTime, ShowsBy}
 use Rattle.interim.specs.Meaning.{IsWallAt, moment_at}
 use Rattle.interim.proofs.Stretches.{is_within-of, is_within-not}
@@ -40,6 +41,10 @@ found_instant n s f e h is =
 pub no_instant : (n s : ℤ) (f : ℕ) → n ≡ instant s f → f < 1000000000 → (IsTimestampNanos n → ⊥) → None ≡ moment_at jiff_seconds s f
 no_instant n s f e h never =
     rw (is_within-not jiff_seconds s (λ low high. never (omega (arith, signed_arith, low), omega (arith, signed_arith, high)))) refl
+
+-- no moment at a second that `jiff` does not have
+pub no_second : (s : ℤ) (f : ℕ) → (LiesIn jiff_seconds s → ⊥) → None ≡ moment_at jiff_seconds s f
+no_second s f never = rw (is_within-not jiff_seconds s (λ low high. never (low, high))) refl
 
 -- a wall time in nanoseconds
 pub civil_nanos-is : (wall : DateTime) → civil_nanos wall ≡ instant (civil_seconds wall) wall.time.subsec_nanosecond

@@ -16,5 +16,6 @@ pub mod SoundSteps
 pub mod SoundTime
 pub mod Stretches
 pub mod Tail
+mod TokenExamples
 pub mod TokenPlaces
 pub mod WordLemmas

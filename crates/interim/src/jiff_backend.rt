@@ -1,7 +1,9 @@
 //! Phrases over the civil dates, civil times and zoned datetimes of `jiff`.
-ghost use Rattle.std.specs.Prelude.{◌≡◌, ◌≤◌, ◌≤ℤ◌, pos, negsuc};
+ghost use Rattle.std.specs.Prelude.{◌≡◌, ◌≤◌, ◌<◌, ◌↔◌, ◌≤ℤ◌, pos, negsuc, IsTrue, IsSome, IfSome};
 ghost use Rattle.civil.specs.Months.{moved_year, moved_month};
-ghost use Rattle.interim.specs.Jiff.{instant};
+ghost use Rattle.jiff_core.specs.Calendar.{IsCivilDate};
+ghost use Rattle.interim.specs.Inside.JiffBounds.{LiesIn};
+ghost use Rattle.interim.specs.Jiff.{jiff_days, jiff_seconds, instant};
 
 use crate::datetime::{Date, DateTime, Refused, Time};
 use jiff::tz::TimeZone;
@@ -9,6 +11,52 @@ use jiff::{Timestamp, Zoned, civil};
 
 #[cfg(test)]
 mod tests;
+
+// The day numbers of -9999-01-01 and 9999-12-31, the first and the last date of jiff (`civil::Date::MIN` and `MAX`).
+const FIRST_DAY: i128 = -4_371_587;
+
+const LAST_DAY: i128 = 2_932_896;
+
+// The first and the last second of jiff's instants (`Timestamp::MIN` and `MAX`): 25:59:59, its greatest offset, inside of its days.
+const FIRST_SECOND: i128 = -377_705_023_201;
+
+const LAST_SECOND: i128 = 253_402_207_200;
+
+// Whether jiff has the year, the year the month, and the month the day.
+fn is_date(year: i32, month: u32, day: u32) -> bool
+    ensures { IsTrue result ↔ IsCivilDate year month day }
+{
+    if year < -9999 || year > 9999 || month < 1 || month > 12 || day < 1 {
+        return false;
+    }
+    day <= jiff_core::civil::days_in_month(year as i16, month as u8) as u32
+}
+
+// Whether jiff has the day of this number.
+fn is_day(day: i128) -> bool
+    ensures { IsTrue result ↔ LiesIn jiff_days day }
+{
+    FIRST_DAY <= day && day <= LAST_DAY
+}
+
+// Whether jiff has the instants of this second.
+fn is_second(second: i128) -> bool
+    ensures { IsTrue result ↔ LiesIn jiff_seconds second }
+{
+    FIRST_SECOND <= second && second <= LAST_SECOND
+}
+
+// The instant of a second with its nanoseconds, if jiff has it.
+fn instant_at(second: i128, nanos: u32) -> Option<Timestamp>
+    requires { nanos < 1000000000 }
+    ensures there { IsSome result ↔ LiesIn jiff_seconds second }
+    ensures value { IfSome result (λ t. t.nanosecond ≡ instant second nanos) }
+{
+    if !is_second(second) {
+        return None;
+    }
+    Some(Timestamp::constant(second as i64, nanos as i32))
+}
 
 // The month so many months after a month of the calendar, with its year.
 fn month_after(year: i16, month: u8, months: i32) -> (i32, u8)
@@ -40,13 +88,10 @@ impl Date for civil::Date {
     ghost memory = { false };
 
     fn from_ymd(year: i32, month: u32, day: u32) -> Result<civil::Date, Refused> {
-        if year < -9999 || year > 9999 || month > 12 || day > 31 {
+        if !is_date(year, month, day) {
             return Err(Refused::OutOfRange);
         }
-        match civil::Date::new(year as i16, month as i8, day as i8) {
-            Ok(date) => Ok(date),
-            Err(_) => Err(Refused::OutOfRange),
-        }
+        Ok(civil::date(year as i16, month as i8, day as i8))
     }
 
     fn offset_months(self, months: i32) -> Result<civil::Date, Refused> {
@@ -60,9 +105,13 @@ impl Date for civil::Date {
     }
 
     fn offset_days(self, days: i64) -> Result<civil::Date, Refused> {
-        match self.to_plain().checked_add(days) {
-            Ok(date) => Ok(civil::Date::from_plain(date)),
-            Err(_) => Err(Refused::OutOfRange),
+        let date = self.to_plain();
+        if !is_day(date.to_unix_epoch_day() as i128 + days as i128) {
+            return Err(Refused::OutOfRange);
+        }
+        match date.checked_add(days) {
+            Ok(moved) => Ok(civil::Date::from_plain(moved)),
+            Err(_) => unreachable!(),
         }
     }
 
@@ -90,10 +139,7 @@ impl Time for civil::Time {
         if h >= 24 || m >= 60 || s >= 60 {
             return Err(Refused::OutOfRange);
         }
-        match civil::Time::new(h as i8, m as i8, s as i8, 0) {
-            Ok(time) => Ok(time),
-            Err(_) => Err(Refused::OutOfRange),
-        }
+        Ok(civil::time(h as i8, m as i8, s as i8, 0))
     }
 
     fn with_micros(self, ms: u32) -> Result<civil::Time, Refused> {
@@ -106,15 +152,6 @@ impl Time for civil::Time {
     }
 
     ghost ordered = { λ a b. same_order (time_seconds a) (time_seconds b) a.subsec_nanosecond b.subsec_nanosecond a.subsec_in b.subsec_in };
-}
-
-// A second with a fraction in nanoseconds.
-fn nanoseconds(second: i128, fraction: u32) -> i128
-    requires low { negsuc 10000000000000000000 ≤ℤ second }
-    requires high { second ≤ℤ pos 10000000000000000000 }
-    ensures { result ≡ instant second fraction }
-{
-    1_000_000_000 * second + fraction as i128
 }
 
 impl<'a> DateTime for Zoned<'a> {
@@ -142,6 +179,7 @@ impl<'a> DateTime for Zoned<'a> {
     ghost memory = { false };
 
     fn new(tz: TimeZone<'a>, date: civil::Date, time: civil::Time) -> Result<Zoned<'a>, Refused> {
+        // Where the zone places the wall time, jiff alone tells.
         match date.to_datetime(time).to_zoned(tz) {
             Ok(moment) => Ok(moment),
             Err(_) => Err(Refused::OutOfRange),
@@ -160,17 +198,18 @@ impl<'a> DateTime for Zoned<'a> {
     ) -> Result<Zoned<'a>, Refused> {
         let wall = date.to_datetime(time).to_plain();
         let shown = wall.to_second() as i128 - secs as i128;
-        match Timestamp::from_nanosecond(nanoseconds(shown, wall.time.subsec_nanosecond)) {
-            Ok(instant) => Ok(instant.to_zoned(tz)),
-            Err(_) => Err(Refused::OutOfRange),
+        match instant_at(shown, wall.time.subsec_nanosecond) {
+            Some(instant) => Ok(instant.to_zoned(tz)),
+            None => Err(Refused::OutOfRange),
         }
     }
 
     fn offset_seconds(self, secs: i64) -> Result<Zoned<'a>, Refused> {
-        let later = self.timestamp().as_nanosecond() + 1_000_000_000 * secs as i128;
-        match Timestamp::from_nanosecond(later) {
-            Ok(instant) => Ok(instant.to_zoned(self.time_zone())),
-            Err(_) => Err(Refused::OutOfRange),
+        let now = self.timestamp().as_nanosecond();
+        let second = now.div_euclid(1_000_000_000) + secs as i128;
+        match instant_at(second, now.rem_euclid(1_000_000_000) as u32) {
+            Some(instant) => Ok(instant.to_zoned(self.time_zone())),
+            None => Err(Refused::OutOfRange),
         }
     }
 

@@ -91,6 +91,29 @@ fn on(year: i32, month: u32, day: u32) -> Result<civil::Date, Fail> {
     Ok(date.ok().ok_or("no date")?)
 }
 
+// Of 29 February 2018 and 1900 have none, and 2000 has one.
+#[test]
+fn dates_exist_or_are_refused(rt: HostRuntime) -> Result<(), Fail> {
+    let rows: [(i32, u32, u32); 9] = [
+        (2018, 0, 1),
+        (2018, 13, 1),
+        (2018, 257, 1),
+        (2018, 1, 0),
+        (2018, 1, 32),
+        (2018, 4, 31),
+        (2018, 2, 29),
+        (1900, 2, 29),
+        (i32::MAX, 1, 1),
+    ];
+    for (year, month, day) in rows {
+        let date = <civil::Date as Date>::from_ymd(year, month, day);
+        assert_eq!(rt; date, Err(Refused::OutOfRange), "{year} {month} {day}");
+    }
+    assert_eq!(rt; on(2000, 2, 29)?.offset_days(1), Ok(on(2000, 3, 1)?));
+    assert_eq!(rt; on(2018, 3, 1)?.offset_days(-1), Ok(on(2018, 2, 28)?));
+    Ok(())
+}
+
 // The first day is 4,371,587 days before 1970-01-01, and the last 2,932,896 days after it.
 #[test]
 fn days_end_with_the_years_9999(rt: HostRuntime) -> Result<(), Fail> {
@@ -103,6 +126,8 @@ fn days_end_with_the_years_9999(rt: HostRuntime) -> Result<(), Fail> {
     assert_eq!(rt; last.offset_days(-7_304_483), Ok(first));
     assert_eq!(rt; first.offset_days(-1), outside);
     assert_eq!(rt; last.offset_days(1), outside);
+    assert_eq!(rt; first.offset_days(i64::MIN), outside);
+    assert_eq!(rt; last.offset_days(i64::MAX), outside);
     assert_eq!(rt; first.offset_months(239_987), Ok(on(9999, 12, 1)?));
     assert_eq!(rt; last.offset_months(-239_987), Ok(on(-9999, 1, 31)?));
     assert_eq!(rt; first.offset_months(-1), outside);
@@ -126,14 +151,18 @@ fn instants_end_near_the_last_days(rt: HostRuntime) -> Result<(), Fail> {
     assert_eq!(rt; last.offset_seconds(-631_107_230_401), Ok(first));
     assert_eq!(rt; first.offset_seconds(-1), outside);
     assert_eq!(rt; last.offset_seconds(1), outside);
+    assert_eq!(rt; first.offset_seconds(i64::MIN), outside);
+    assert_eq!(rt; last.offset_seconds(i64::MAX), outside);
     let early = civil::Time::new(1, 59, 59, 0).ok().ok_or("no time")?;
     let late = civil::Time::new(22, 0, 0, 0).ok().ok_or("no time")?;
     let day = on(-9999, 1, 2)?;
     let outside = Err(Refused::OutOfRange);
     assert_eq!(rt; fixed_at(day, early, 0), Ok(-377_705_023_201));
     assert_eq!(rt; fixed_at(day, early, 1), outside);
+    assert_eq!(rt; fixed_at(day, early, i64::MAX), outside);
     let day = on(9999, 12, 30)?;
     assert_eq!(rt; fixed_at(day, late, 0), Ok(253_402_207_200));
     assert_eq!(rt; fixed_at(day, late, -1), outside);
+    assert_eq!(rt; fixed_at(day, late, i64::MIN), outside);
     Ok(())
 }

@@ -15,9 +15,9 @@ returns-then-h-ge24 c =
       | then-h-ge24-via-else-h-ge24+else-m-ge60+then-s-ge60 w ↦ omega (arith, is.in_minute, w.if-s-ge60)
     ])
 
-pub returns-in-Ok : goal.returns-in-Ok
-returns-in-Ok c =
-    let time = c.in-Ok.time in
-    let parts = c.in-Ok.ensures.value in
+pub returns : goal.returns
+returns c =
+    let time = c.time.result in
+    let parts = c.time.ensures in
     let is : IsClock c.args.h c.args.m c.args.s = record { in_day = omega (arith, c.if-h-ge24.false); in_hour = omega (arith, c.if-m-ge60.false); in_minute = omega (arith, c.if-s-ge60.false) } in
     found_time c.args.h c.args.m c.args.s (time_seconds time) time.subsec_nanosecond is (omega (arith, signed_casts, is.in_day, is.in_hour, is.in_minute, parts.0, parts.1, parts.2)) (omega (arith, signed_casts, parts.3))
