@@ -4,7 +4,7 @@ ghost use Rattle.resb.specs.Pool.{bare, place_of};
 ghost use Rattle.resb.specs.Plan.{values_in, no_places, places_in, array_of, table_of, Fits, FitsAll, Refuses};
 ghost use Rattle.resb.specs.Writing.{laid, lay_all, most_of, text_laid, bytes_laid, integers_laid};
 
-use crate::packing::{push_bytes, push_units};
+use crate::packing::{push_bytes, push_text, push_units};
 use crate::pool::KeyPool;
 use resb_tree::{Key, ResbError, Resource};
 use sqlite_items::Items;
@@ -34,7 +34,7 @@ fn has_room(base: usize, out: &Vec<u32>, more: usize) -> bool
 
 /// Appends the words of a text, and answers its item.
 #[tactic(auto, using(crate::proofs::LaidWords::leaves))]
-fn lay_text(alloc: Global, units: &[u16], base: usize, out: &mut Vec<u32>) -> Result<u32, ResbError>
+fn lay_text(units: &[u16], base: usize, out: &mut Vec<u32>) -> Result<u32, ResbError>
     requires { base + length out.old.items ≤ 1048570 }
     ensures words { OnOk result (out.new.items ≡ out.old.items ++ (text_laid units.now no_places (base + length out.old.items)).0) }
     ensures item { IfOk result (λ v. v ≡ (text_laid units.now no_places (base + length out.old.items)).1) }
@@ -49,10 +49,8 @@ fn lay_text(alloc: Global, units: &[u16], base: usize, out: &mut Vec<u32>) -> Re
         return Err(ResbError::TooLarge);
     }
     let item = (base + out.len()) as u32;
-    let mut padded = Vec::from_slice(alloc, units)?;
-    padded.push(0)?;
     out.push(count as u32)?;
-    push_units(out, padded.as_slice())?;
+    push_text(out, units)?;
     Ok(item)
 }
 
@@ -247,7 +245,7 @@ pub fn lay(
     ensures refused { IfErr result (Refuses (Fits tree.now (places_in pool.now) (base + length out.old.items))) }
 {
     match tree {
-        Resource::Text(units) => lay_text(alloc, units.as_slice(), base, out),
+        Resource::Text(units) => lay_text(units.as_slice(), base, out),
         Resource::Bytes(bytes) => lay_bytes(bytes.as_slice(), base, out),
         Resource::Table(entries) => lay_table(alloc, entries.as_slice(), pool, base, out),
         Resource::Integer(v) => {

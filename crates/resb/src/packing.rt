@@ -1,7 +1,30 @@
-ghost use Rattle.std.specs.Prelude.{◌≡◌, ◌++◌, OnOk};
+ghost use Rattle.std.specs.Prelude.{◌≡◌, ◌+◌, ◌*◌, ◌∷◌, [], ◌++◌, OnOk};
 ghost use Rattle.resb.specs.Writing.{pack_units, pack_bytes};
 
 use std::alloc::AllocError;
+
+/// The word of two units.
+pub fn pair(low: u16, high: u16) -> u32
+    ensures { result ≡ low + 65536 * high }
+{
+    u32::from(low) + 65_536 * u32::from(high)
+}
+
+/// Appends the words of units and a zero behind them, two to a word, the low unit first. A zero fills the last word.
+pub fn push_text(out: &mut Vec<u32>, units: &[u16]) -> Result<(), AllocError>
+    ensures { OnOk result (out.new.items ≡ out.old.items ++ pack_units (units.now ++ 0 ∷ [])) }
+{
+    let mut rest = units;
+    while let [low, high, more @ ..] = rest {
+        out.push(pair(*low, *high))?;
+        rest = more;
+    }
+    match rest {
+        [low] => out.push(u32::from(*low))?,
+        _ => out.push(0)?,
+    }
+    Ok(())
+}
 
 /// Appends the words of units, two to a word, the low unit first. Zeros fill the last word.
 pub fn push_units(out: &mut Vec<u32>, units: &[u16]) -> Result<(), AllocError>
@@ -9,7 +32,7 @@ pub fn push_units(out: &mut Vec<u32>, units: &[u16]) -> Result<(), AllocError>
 {
     let mut rest = units;
     while let [low, high, more @ ..] = rest {
-        out.push(u32::from(*low) + 65_536 * u32::from(*high))?;
+        out.push(pair(*low, *high))?;
         rest = more;
     }
     if let [low] = rest {
