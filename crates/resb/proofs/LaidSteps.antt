@@ -1,6 +1,7 @@
 -- Trees that are laid one after the other, and what stands behind them.
-use Rattle.std.proofs.Common.{◌≡◌, ℕ, suc, ◌+◌, ◌/◌, ◌<◌, ◌≤◌, Bool, true, false, List, [], ◌∷◌, ◌++◌, length, drop, get_or, refl, sym, ap, ◌∙◌, add-one, drop-cons, append_assoc, inl, inr, arith}
+use Rattle.std.proofs.Common.{◌≡◌, ℕ, suc, ◌+◌, ◌/◌, ◌<◌, ◌≤◌, Bool, true, false, List, [], ◌∷◌, ◌++◌, length, take, drop, get_or, refl, sym, ap, ◌∙◌, add-one, drop-cons, append_assoc, inl, inr, arith}
 use Rattle.std.proofs.lemmas.List.{length-append, length-map}
+use Rattle.std.proofs.Math.Seq.{drop-append_seam, take-append_seam}
 use Rattle.std.proofs.lemmas.Bool.Decides.{leb_tells}
 use Rattle.std.specs.Prelude.{map, nat_le}
 use Rattle.resb_tree.specs.declared.resource.Resource.{Resource}
@@ -42,11 +43,23 @@ fits_on places base x xs out new e f =
     let m : base + length new ≡ base + length out + length w = moved base out new w e in
     rw m (fits-rest x xs places (base + length out) f)
 
+pub length-lay_all : (xs : List Resource) (places : List ℕ → ℕ) (at : ℕ) → length (lay_all (map laid xs) places at).1 ≡ length xs
+length-lay_all [] places at = refl
+length-lay_all (x ∷ xs) places at = ap suc (length-lay_all xs places (at + length (laid x places at).0))
+
 -- ---- an array behind its items
 
-pub array_words : (xs : List Resource) (places : List ℕ → ℕ) (at count : ℕ) (old out pushed new found : List ℕ) → 0 < length xs → out ≡ old ++ (lay_all (map laid xs) places at).0 → found ≡ (lay_all (map laid xs) places at).1
-    → count ≡ length found → pushed ≡ out ++ count ∷ [] → new ≡ pushed ++ found → new ≡ old ++ (laid (r.Array xs) places at).0
-array_words xs places at count old out pushed new found lt e f n p a = rw (a, p, n, e, f, array_some xs places at lt) (simp append_assoc)
+-- what was put on a stack, from where it was put
+topmost : (kept : ℕ) (stack new found : List ℕ) → new ≡ stack ++ found → kept ≡ length stack → drop kept new ≡ found
+topmost kept stack new found e k = rw (k, e) (drop-append_seam stack found)
+
+pub unstacked : (kept : ℕ) (stack new found left : List ℕ) → new ≡ stack ++ found → kept ≡ length stack → left ≡ take kept new → left ≡ stack
+unstacked kept stack new found left e k h = rw (h, k, e) (take-append_seam stack found)
+
+pub array_words : (xs : List Resource) (places : List ℕ → ℕ) (at count : ℕ) (old out pushed new stack top : List ℕ) (kept : ℕ) → 0 < length xs → out ≡ old ++ (lay_all (map laid xs) places at).0 → top ≡ stack ++ (lay_all (map laid xs) places at).1
+    → count ≡ length xs → pushed ≡ out ++ count ∷ [] → kept ≡ length stack → new ≡ pushed ++ drop kept top → new ≡ old ++ (laid (r.Array xs) places at).0
+array_words xs places at count old out pushed new stack top kept lt e f n p k a =
+    rw (a, p, n, topmost kept stack top (lay_all (map laid xs) places at).1 f k, e, array_some xs places at lt, length-lay_all xs places at) (simp append_assoc)
 
 pub array_item : (xs : List Resource) (places : List ℕ → ℕ) (base : ℕ) (old out : List ℕ) (v : ℕ) → 0 < length xs → out ≡ old ++ (lay_all (map laid xs) places (base + length old)).0 → v ≡ 2147483648 + (base + length out)
     → v ≡ (laid (r.Array xs) places (base + length old)).1
@@ -54,27 +67,24 @@ array_item xs places base old out v lt e f =
     let inner = lay_all (map laid xs) places (base + length old) in
     rw (array_some xs places (base + length old) lt) (omega (arith, f, ap length e, length-append old inner.0))
 
-pub array_full : (xs : List Resource) (places : List ℕ → ℕ) (base more : ℕ) (old out found : List ℕ) → 0 < length xs → out ≡ old ++ (lay_all (map laid xs) places (base + length old)).0 → found ≡ (lay_all (map laid xs) places (base + length old)).1
-    → more ≤ length found + 1 → 1048570 < base + length out + more → Fits (r.Array xs) places (base + length old) → ⊥
-array_full xs places base more old out found lt e f m full fits =
+pub array_full : (xs : List Resource) (places : List ℕ → ℕ) (base more : ℕ) (old out : List ℕ) → 0 < length xs → out ≡ old ++ (lay_all (map laid xs) places (base + length old)).0
+    → more ≤ length xs + 1 → 1048570 < base + length out + more → Fits (r.Array xs) places (base + length old) → ⊥
+array_full xs places base more old out lt e m full fits =
     let inner = lay_all (map laid xs) places (base + length old) in
-    omega (arith, room-array xs places (base + length old) lt fits, ap length e, ap length f, length-append old inner.0)
+    omega (arith, room-array xs places (base + length old) lt fits, ap length e, length-append old inner.0, length-lay_all xs places (base + length old))
 
 -- ---- a table behind its values
 
-pub table_laid_words : (es : List (List ℕ × Resource)) (places : List ℕ → ℕ) (at : ℕ) (old out units pushed new found : List ℕ) → 0 < length es → out ≡ old ++ (lay_all (map laid (values_in es)) places at).0 → found ≡ (lay_all (map laid (values_in es)) places at).1
-    → units ≡ length es ∷ map places (keys_in es) → pushed ≡ out ++ pack_units units → new ≡ pushed ++ found → new ≡ old ++ (laid (r.Table es) places at).0
-table_laid_words es places at old out units pushed new found lt e f u p a = rw (a, p, u, e, f, table_some es places at lt) (simp append_assoc)
+pub table_laid_words : (es : List (List ℕ × Resource)) (places : List ℕ → ℕ) (at : ℕ) (old out pushed new stack top : List ℕ) (kept : ℕ) → 0 < length es → out ≡ old ++ (lay_all (map laid (values_in es)) places at).0
+    → top ≡ stack ++ (lay_all (map laid (values_in es)) places at).1 → pushed ≡ out ++ pack_units (length es ∷ map places (keys_in es)) → kept ≡ length stack → new ≡ pushed ++ drop kept top → new ≡ old ++ (laid (r.Table es) places at).0
+table_laid_words es places at old out pushed new stack top kept lt e f p k a =
+    rw (a, p, topmost kept stack top (lay_all (map laid (values_in es)) places at).1 f k, e, table_some es places at lt) (simp append_assoc)
 
 pub table_item : (es : List (List ℕ × Resource)) (places : List ℕ → ℕ) (base : ℕ) (old out : List ℕ) (v : ℕ) → 0 < length es → out ≡ old ++ (lay_all (map laid (values_in es)) places (base + length old)).0 → v ≡ 536870912 + (base + length out)
     → v ≡ (laid (r.Table es) places (base + length old)).1
 table_item es places base old out v lt e f =
     let inner = lay_all (map laid (values_in es)) places (base + length old) in
     rw (table_some es places (base + length old) lt) (omega (arith, f, ap length e, length-append old inner.0))
-
-pub length-lay_all : (xs : List Resource) (places : List ℕ → ℕ) (at : ℕ) → length (lay_all (map laid xs) places at).1 ≡ length xs
-length-lay_all [] places at = refl
-length-lay_all (x ∷ xs) places at = ap suc (length-lay_all xs places (at + length (laid x places at).0))
 
 length-values : (es : List (List ℕ × Resource)) → length (values_in es) ≡ length es
 length-values [] = refl
@@ -104,12 +114,12 @@ all_on places base x xs out new e f g =
     let m : base + length new ≡ base + length out + length w = moved base out new w e in
     fits_cons x xs places (base + length out) f (rw m at g)
 
-pub array_fits_behind : (xs : List Resource) (places : List ℕ → ℕ) (base more : ℕ) (old out found : List ℕ) → 0 < length xs → out ≡ old ++ (lay_all (map laid xs) places (base + length old)).0 → found ≡ (lay_all (map laid xs) places (base + length old)).1
-    → length found + 1 ≤ more → base + length out + more ≤ 1048570 → FitsAll xs places (base + length old) → Fits (r.Array xs) places (base + length old)
-array_fits_behind xs places base more old out found lt e f m room all =
+pub array_fits_behind : (xs : List Resource) (places : List ℕ → ℕ) (base more : ℕ) (old out : List ℕ) → 0 < length xs → out ≡ old ++ (lay_all (map laid xs) places (base + length old)).0
+    → length xs + 1 ≤ more → base + length out + more ≤ 1048570 → FitsAll xs places (base + length old) → Fits (r.Array xs) places (base + length old)
+array_fits_behind xs places base more old out lt e m room all =
     let at = base + length old in
     let inner = lay_all (map laid xs) places at in
-    let h : at + length (inner.0 ++ length inner.1 ∷ inner.1) ≤ 1048570 = omega (arith, ap length e, ap length f, length-append old inner.0, length-append inner.0 (length inner.1 ∷ inner.1)) in
+    let h : at + length (inner.0 ++ length inner.1 ∷ inner.1) ≤ 1048570 = omega (arith, ap length e, length-append old inner.0, length-append inner.0 (length inner.1 ∷ inner.1), length-lay_all xs places at) in
     array_fits xs places at (rw (array_some xs places at lt) h) all
 
 pub table_fits_behind : (es : List (List ℕ × Resource)) (places : List ℕ → ℕ) (base : ℕ) (old out : List ℕ) → 0 < length es → out ≡ old ++ (lay_all (map laid (values_in es)) places (base + length old)).0

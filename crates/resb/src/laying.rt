@@ -1,14 +1,14 @@
-ghost use Rattle.std.specs.Prelude.{◌≡◌, ℕ, ◌+◌, ◌≤◌, [], ◌∷◌, ◌++◌, map, nat_le, length, OnOk, IfOk, IfErr};
+ghost use Rattle.std.specs.Prelude.{◌≡◌, ℕ, ◌+◌, ◌≤◌, [], ◌∷◌, ◌++◌, map, nat_le, length, take, drop, OnOk, IfOk, IfErr};
 ghost use Rattle.resb_tree.specs.Keys.{keys_in};
 ghost use Rattle.resb.specs.Pool.{bare, place_of};
 ghost use Rattle.resb.specs.Plan.{values_in, no_places, places_in, array_of, table_of, Fits, FitsAll, Refuses};
-ghost use Rattle.resb.specs.Writing.{laid, lay_all, most_of, text_laid, bytes_laid, integers_laid};
+ghost use Rattle.resb.specs.Writing.{laid, lay_all, most_of, pack_units, text_laid, bytes_laid, integers_laid};
 
-use crate::packing::{push_bytes, push_text, push_units};
+use crate::packing::{pair, push_bytes, push_text};
 use crate::pool::KeyPool;
 use resb_tree::{Key, ResbError, Resource};
 use sqlite_items::Items;
-use std::alloc::Global;
+use std::alloc::AllocError;
 
 /// An item is its type times 268,435,456, and its value. These are the items with the value 0.
 const BYTES: u32 = 268_435_456;
@@ -98,115 +98,145 @@ fn lay_integers(values: &[u32], base: usize, out: &mut Vec<u32>) -> Result<u32, 
     Ok(item)
 }
 
-/// The number of entries and the places of their keys, as units.
-fn key_units(
-    alloc: Global,
+/// The place of a key, as a unit.
+fn place_unit(key: &Key, pool: &KeyPool<'_>) -> Result<u16, ResbError>
+    ensures place { IfOk result (λ v. v ≡ places_in pool.now key.now) }
+    ensures refused { IfErr result (Refuses (places_in pool.now key.now ≤ 65535)) }
+{
+    let place = pool.place(key.as_slice());
+    if place > 65_535 {
+        return Err(ResbError::TooLarge);
+    }
+    Ok(place as u16)
+}
+
+/// Appends the words of the number of entries and the places of their keys, which are units.
+fn push_places(
     entries: &[(Key, Resource)],
     pool: &KeyPool<'_>,
-) -> Result<Vec<u16>, ResbError>
+    out: &mut Vec<u32>,
+) -> Result<(), ResbError>
     requires { length entries.now ≤ 65535 }
-    ensures units { IfOk result (λ v. v.items ≡ length entries.now ∷ map (places_in pool.now) (keys_in entries.now)) }
+    ensures words { OnOk result (out.new.items ≡ out.old.items ++ pack_units (length entries.now ∷ map (places_in pool.now) (keys_in entries.now))) }
     ensures fits { OnOk result (most_of (map (places_in pool.now) (keys_in entries.now)) ≤ 65535) }
     ensures refused { IfErr result (Refuses (most_of (map (places_in pool.now) (keys_in entries.now)) ≤ 65535)) }
 {
-    let mut units = Vec::new(alloc);
-    units.push(entries.len() as u16)?;
-    for (key, _) in entries {
-        let place = pool.place(key.as_slice());
-        if place > 65_535 {
-            return Err(ResbError::TooLarge);
-        }
-        units.push(place as u16)?;
+    let mut low = entries.len() as u16;
+    let mut rest = entries;
+    while let [(first, _), (second, _), more @ ..] = rest {
+        let high = place_unit(first, pool)?;
+        out.push(pair(low, high))?;
+        low = place_unit(second, pool)?;
+        rest = more;
     }
-    Ok(units)
+    if let [(last, _)] = rest {
+        let high = place_unit(last, pool)?;
+        out.push(pair(low, high))?;
+    } else {
+        out.push(u32::from(low))?;
+    }
+    Ok(())
 }
 
-/// Appends the words of items one after the other, and answers what stands for each.
+/// Moves the words behind the first `kept` of a stack to the end of `out`.
+fn unstack(stack: &mut Vec<u32>, kept: usize, out: &mut Vec<u32>) -> Result<(), AllocError>
+    requires { kept ≤ length stack.old.items }
+    ensures words { OnOk result (out.new.items ≡ out.old.items ++ drop kept stack.old.items) }
+    ensures stack { OnOk result (stack.new.items ≡ take kept stack.old.items) }
+{
+    out.extend_from_slice(&stack.as_slice()[kept..])?;
+    stack.truncate(kept);
+    Ok(())
+}
+
+/// Appends the words of items one after the other, and puts what stands for each on the stack.
 #[cycle(lay)]
 fn lay_items(
-    alloc: Global,
     items: &[Resource],
     pool: &KeyPool<'_>,
     base: usize,
     out: &mut Vec<u32>,
-) -> Result<Vec<u32>, ResbError>
+    stack: &mut Vec<u32>,
+) -> Result<(), ResbError>
     requires { base + length out.old.items ≤ 1048570 }
     ensures words { OnOk result (out.new.items ≡ out.old.items ++ (lay_all (map laid items.now) (places_in pool.now) (base + length out.old.items)).0) }
-    ensures items { IfOk result (λ v. v.items ≡ (lay_all (map laid items.now) (places_in pool.now) (base + length out.old.items)).1) }
+    ensures items { OnOk result (stack.new.items ≡ stack.old.items ++ (lay_all (map laid items.now) (places_in pool.now) (base + length out.old.items)).1) }
     ensures fits { OnOk result (FitsAll items.now (places_in pool.now) (base + length out.old.items)) }
     ensures refused { IfErr result (Refuses (FitsAll items.now (places_in pool.now) (base + length out.old.items))) }
 {
-    let mut found = Vec::new(alloc);
     for item in items {
-        let word = lay(alloc, item, pool, base, out)?;
-        found.push(word)?;
+        let word = lay(item, pool, base, out, stack)?;
+        stack.push(word)?;
     }
-    Ok(found)
+    Ok(())
 }
 
-/// Appends the words of values one after the other, and answers what stands for each.
+/// Appends the words of values one after the other, and puts what stands for each on the stack.
 #[cycle(lay)]
 fn lay_values(
-    alloc: Global,
     entries: &[(Key, Resource)],
     pool: &KeyPool<'_>,
     base: usize,
     out: &mut Vec<u32>,
-) -> Result<Vec<u32>, ResbError>
+    stack: &mut Vec<u32>,
+) -> Result<(), ResbError>
     requires { base + length out.old.items ≤ 1048570 }
     ensures words { OnOk result (out.new.items ≡ out.old.items ++ (lay_all (map laid (values_in entries.now)) (places_in pool.now) (base + length out.old.items)).0) }
-    ensures items { IfOk result (λ v. v.items ≡ (lay_all (map laid (values_in entries.now)) (places_in pool.now) (base + length out.old.items)).1) }
+    ensures items { OnOk result (stack.new.items ≡ stack.old.items ++ (lay_all (map laid (values_in entries.now)) (places_in pool.now) (base + length out.old.items)).1) }
     ensures fits { OnOk result (FitsAll (values_in entries.now) (places_in pool.now) (base + length out.old.items)) }
     ensures refused { IfErr result (Refuses (FitsAll (values_in entries.now) (places_in pool.now) (base + length out.old.items))) }
 {
-    let mut found = Vec::new(alloc);
     for (_, value) in entries {
-        let word = lay(alloc, value, pool, base, out)?;
-        found.push(word)?;
+        let word = lay(value, pool, base, out, stack)?;
+        stack.push(word)?;
     }
-    Ok(found)
+    Ok(())
 }
 
 /// Appends the words of an array behind those of its items, and answers its item.
 #[cycle(lay)]
 fn lay_array(
-    alloc: Global,
     items: &[Resource],
     pool: &KeyPool<'_>,
     base: usize,
     out: &mut Vec<u32>,
+    stack: &mut Vec<u32>,
 ) -> Result<u32, ResbError>
     requires { base + length out.old.items ≤ 1048570 }
     ensures words { OnOk result (out.new.items ≡ out.old.items ++ (laid (array_of items.now) (places_in pool.now) (base + length out.old.items)).0) }
     ensures item { IfOk result (λ v. v ≡ (laid (array_of items.now) (places_in pool.now) (base + length out.old.items)).1) }
+    ensures stack { OnOk result (stack.new.items ≡ stack.old.items) }
     ensures fits { OnOk result (Fits (array_of items.now) (places_in pool.now) (base + length out.old.items)) }
     ensures refused { IfErr result (Refuses (Fits (array_of items.now) (places_in pool.now) (base + length out.old.items))) }
 {
-    if items.len() == 0 {
+    let count = items.len();
+    if count == 0 {
         return Ok(ARRAY);
     }
-    let mut inner = lay_items(alloc, items, pool, base, out)?;
-    if !has_room(base, out, inner.len().saturating_add(1)) {
+    let kept = stack.len();
+    lay_items(items, pool, base, out, stack)?;
+    if !has_room(base, out, count.saturating_add(1)) {
         return Err(ResbError::TooLarge);
     }
     let item = ARRAY + (base + out.len()) as u32;
-    out.push(inner.len() as u32)?;
-    out.append(&mut inner)?;
+    out.push(count as u32)?;
+    unstack(stack, kept, out)?;
     Ok(item)
 }
 
 /// Appends the words of a table behind those of its values, and answers its item.
 #[cycle(lay)]
 fn lay_table(
-    alloc: Global,
     entries: &[(Key, Resource)],
     pool: &KeyPool<'_>,
     base: usize,
     out: &mut Vec<u32>,
+    stack: &mut Vec<u32>,
 ) -> Result<u32, ResbError>
     requires { base + length out.old.items ≤ 1048570 }
     ensures words { OnOk result (out.new.items ≡ out.old.items ++ (laid (table_of entries.now) (places_in pool.now) (base + length out.old.items)).0) }
     ensures item { IfOk result (λ v. v ≡ (laid (table_of entries.now) (places_in pool.now) (base + length out.old.items)).1) }
+    ensures stack { OnOk result (stack.new.items ≡ stack.old.items) }
     ensures fits { OnOk result (Fits (table_of entries.now) (places_in pool.now) (base + length out.old.items)) }
     ensures refused { IfErr result (Refuses (Fits (table_of entries.now) (places_in pool.now) (base + length out.old.items))) }
 {
@@ -217,44 +247,45 @@ fn lay_table(
     if count > 65_535 {
         return Err(ResbError::TooLarge);
     }
-    let units = key_units(alloc, entries, pool)?;
-    let mut inner = lay_values(alloc, entries, pool, base, out)?;
+    let kept = stack.len();
+    lay_values(entries, pool, base, out, stack)?;
     if !has_room(base, out, (count + 2) / 2 + count) {
         return Err(ResbError::TooLarge);
     }
     let item = TABLE + (base + out.len()) as u32;
-    push_units(out, units.as_slice())?;
-    out.append(&mut inner)?;
+    push_places(entries, pool, out)?;
+    unstack(stack, kept, out)?;
     Ok(item)
 }
 
 /// Appends the words of a tree, children before their parent, and answers the item that stands for it. The first word is
-/// body word `base` where `out` is empty.
+/// body word `base` where `out` is empty. The stack holds the items of children whose parent has not been laid yet.
 #[cycle(lay)]
 pub fn lay(
-    alloc: Global,
     tree: &Resource,
     pool: &KeyPool<'_>,
     base: usize,
     out: &mut Vec<u32>,
+    stack: &mut Vec<u32>,
 ) -> Result<u32, ResbError>
     requires { base + length out.old.items ≤ 1048570 }
     ensures words { OnOk result (out.new.items ≡ out.old.items ++ (laid tree.now (places_in pool.now) (base + length out.old.items)).0) }
     ensures item { IfOk result (λ v. v ≡ (laid tree.now (places_in pool.now) (base + length out.old.items)).1) }
+    ensures stack { OnOk result (stack.new.items ≡ stack.old.items) }
     ensures fits { OnOk result (Fits tree.now (places_in pool.now) (base + length out.old.items)) }
     ensures refused { IfErr result (Refuses (Fits tree.now (places_in pool.now) (base + length out.old.items))) }
 {
     match tree {
         Resource::Text(units) => lay_text(units.as_slice(), base, out),
         Resource::Bytes(bytes) => lay_bytes(bytes.as_slice(), base, out),
-        Resource::Table(entries) => lay_table(alloc, entries.as_slice(), pool, base, out),
+        Resource::Table(entries) => lay_table(entries.as_slice(), pool, base, out, stack),
         Resource::Integer(v) => {
             if *v >= 268_435_456 {
                 return Err(ResbError::TooLarge);
             }
             Ok(INTEGER + *v)
         }
-        Resource::Array(items) => lay_array(alloc, items.as_slice(), pool, base, out),
+        Resource::Array(items) => lay_array(items.as_slice(), pool, base, out, stack),
         Resource::Integers(values) => lay_integers(values.as_slice(), base, out),
     }
 }

@@ -26,21 +26,6 @@ pub fn push_text(out: &mut Vec<u32>, units: &[u16]) -> Result<(), AllocError>
     Ok(())
 }
 
-/// Appends the words of units, two to a word, the low unit first. Zeros fill the last word.
-pub fn push_units(out: &mut Vec<u32>, units: &[u16]) -> Result<(), AllocError>
-    ensures { OnOk result (out.new.items ≡ out.old.items ++ pack_units units.now) }
-{
-    let mut rest = units;
-    while let [low, high, more @ ..] = rest {
-        out.push(pair(*low, *high))?;
-        rest = more;
-    }
-    if let [low] = rest {
-        out.push(u32::from(*low))?;
-    }
-    Ok(())
-}
-
 /// Appends the words of bytes, four to a word, the low byte first. Zeros fill the last word.
 pub fn push_bytes(out: &mut Vec<u32>, bytes: &[u8]) -> Result<(), AllocError>
     ensures { OnOk result (out.new.items ≡ out.old.items ++ pack_bytes bytes.now) }

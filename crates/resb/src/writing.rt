@@ -82,7 +82,8 @@ fn words_of(alloc: Global, tree: &Resource, pool: &KeyPool<'_>) -> Result<Vec<u3
         return Err(ResbError::TooLarge);
     }
     let mut resources = Vec::new(alloc);
-    let root = lay(alloc, tree, pool, keys_end, &mut resources)?;
+    let mut stack = Vec::new(alloc);
+    let root = lay(tree, pool, keys_end, &mut resources, &mut stack)?;
     let end = keys_end + resources.len();
     if weigh(tree, 8 * (6 + end)).is_none() {
         return Err(ResbError::TooLarge);

@@ -12,7 +12,7 @@ invariant-lay_items-loop-item l =
     let whole = lay_all (map laid l.items) places (l.base + length l.fn.out.items) in
     record {
       words : l.out.items ++ rest.0 ≡ l.fn.out.items ++ whole.0;
-      items : l.found.items ++ rest.1 ≡ whole.1;
+      items : l.stack.items ++ rest.1 ≡ l.fn.stack.items ++ whole.1;
       room : l.base + length l.out.items ≤ 1048570;
       fits : FitsAll l.items places (l.base + length l.fn.out.items) → FitsAll (drop l.item-index l.items) places (l.base + length l.out.items);
       all : FitsAll (drop l.item-index l.items) places (l.base + length l.out.items) → FitsAll l.items places (l.base + length l.fn.out.items);
@@ -25,7 +25,7 @@ invariant-lay_values-loop-value l =
     let whole = lay_all (map laid (values_in l.entries)) places (l.base + length l.fn.out.items) in
     record {
       words : l.out.items ++ rest.0 ≡ l.fn.out.items ++ whole.0;
-      items : l.found.items ++ rest.1 ≡ whole.1;
+      items : l.stack.items ++ rest.1 ≡ l.fn.stack.items ++ whole.1;
       room : l.base + length l.out.items ≤ 1048570;
       fits : FitsAll (values_in l.entries) places (l.base + length l.fn.out.items) → FitsAll (values_in (drop l.value-index l.entries)) places (l.base + length l.out.items);
       all : FitsAll (values_in (drop l.value-index l.entries)) places (l.base + length l.out.items) → FitsAll (values_in l.entries) places (l.base + length l.fn.out.items);
