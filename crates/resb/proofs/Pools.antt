@@ -1,6 +1,6 @@
 -- A pool of keys: where a key of it begins, and what it is once all keys are met.
-use Rattle.std.proofs.Common.{◌≡◌, ℕ, ◌+◌, ◌<◌, Bool, true, false, cond, List, [], ◌∷◌, ◌++◌, length, Option, Some, None, refl, ap, sym, ◌∙◌, Bor, max, append_assoc, arith}
-use Rattle.std.specs.Prelude.{nat_lt, is_some}
+use Rattle.std.proofs.Common.{◌≡◌, ℕ, zero, suc, ◌+◌, ◌<◌, Bool, true, false, cond, List, [], ◌∷◌, ◌++◌, length, Option, Some, None, refl, ap, sym, ◌∙◌, Bor, max, append_assoc, arith}
+use Rattle.std.specs.Prelude.{nat_lt, is_some, slice_get}
 use Rattle.std.specs.Option.{option_copied}
 use Rattle.std.specs.BTreeMap.{BTreeMap, get_by, UpdatesBy}
 use Rattle.std.specs.Cmp.Lexicographic.{slice_cmp}
@@ -132,3 +132,89 @@ pub unplaced : (keys : List (List ℕ)) (q : List ℕ) (end : ℕ) → end ≡ p
 unplaced keys q end e told = place-absent keys q end e (unplaced_cases keys q (stands_in q keys) refl told)
 
 pub ruleset placing = (placed, unplaced)
+
+-- ---- keys that are met again
+
+bind_bind : {A B C : Type 0} (o : Option A) (f : A → Option B) (g : B → Option C) → (o >>= f >>= g) ≡ (o >>= λ x. f x >>= g)
+bind_bind None f g = refl
+bind_bind (Some x) f g = refl
+
+bind_same : {A B : Type 0} (o : Option A) (f g : A → Option B) → ((x : A) → f x ≡ g x) → (o >>= f) ≡ (o >>= g)
+bind_same None f g h = refl
+bind_same (Some x) f g h = h x
+
+pub pooled-append : (keys xs ys : List (List ℕ)) → pooled keys (xs ++ ys) ≡ (pooled keys xs >>= λ more. pooled more ys)
+unfolding pooled
+pooled-append keys [] ys = refl
+pooled-append keys (x ∷ xs) ys = bind_same (added keys x) (λ more. pooled more (xs ++ ys)) (λ more. pooled more xs >>= λ m. pooled m ys) (λ more. pooled-append more xs ys) ∙ sym (bind_bind (added keys x) (λ more. pooled more xs) (λ m. pooled m ys))
+
+-- keys of which the first part has one pool with others
+pub pooled_on : (old new keys rest : List (List ℕ)) (all : Option (List (List ℕ))) → pooled [] new ≡ pooled [] (old ++ keys) → pooled [] (old ++ (keys ++ rest)) ≡ all → pooled [] (new ++ rest) ≡ all
+pooled_on old new keys rest all e h =
+    pooled-append [] new rest ∙ ap (λ (o : Option (List (List ℕ))). o >>= λ more. pooled more rest) e ∙ sym (pooled-append [] (old ++ keys) rest) ∙ rw append_assoc h
+
+bind_some : {A B : Type 0} (o : Option A) (f : A → Option B) (y : B) → (o >>= f) ≡ Some y → (x : A) × ((o ≡ Some x) × (f x ≡ Some y))
+bind_some {A} {B} None f y h = absurd (let e : (let none : Option B = None in none) ≡ Some y = h in cc)
+bind_some (Some x) f y h = (x, (refl, h))
+
+on_cases : (b r s : Bool) → (r ≡ true → s ≡ true) → cond b true r ≡ true → cond b true s ≡ true
+on_cases true r s f h = refl
+on_cases false r s f h = f h
+
+or_true : (b r : Bool) → r ≡ true → cond b true r ≡ true
+or_true true r h = refl
+or_true false r h = h
+
+stands_on : (xs ys : List (List ℕ)) (q : List ℕ) → stands_in q xs ≡ true → stands_in q (xs ++ ys) ≡ true
+stands_on [] ys q h = absurd (let t : false ≡ true = h in cc)
+stands_on (x ∷ xs) ys q h = on_cases (bytes_eq q x) (stands_in q xs) (stands_in q (xs ++ ys)) (stands_on xs ys q) h
+
+stands_behind : (keys : List (List ℕ)) (q : List ℕ) → stands_in q (keys ++ q ∷ []) ≡ true
+stands_behind [] q = rw ((bytes_eq-Decides q q).1 refl) refl
+stands_behind (k ∷ keys) q = or_true (bytes_eq q k) (stands_in q (keys ++ q ∷ [])) (stands_behind keys q)
+
+-- a key that is added stands in the pool, as do those before it
+added_is : (keys m : List (List ℕ)) (x : List ℕ) (b c : Bool) → stands_in x keys ≡ b → nat_lt 65535 (pool_end keys) ≡ c → added keys x ≡ Some m → (stands_in x m ≡ true) × ((q : List ℕ) → stands_in q keys ≡ true → stands_in q m ≡ true)
+added_is keys m x true c e f h =
+    let s : Some keys ≡ Some m = rw e at h in
+    let k : keys ≡ m = cc in
+    (rw (← k) e, λ q g. rw (← k) g)
+added_is keys m x false true e f h = absurd (let s : (let none : Option (List (List ℕ)) = None in none) ≡ Some m = rw (e, f) at h in cc)
+added_is keys m x false false e f h =
+    let s : Some (keys ++ x ∷ []) ≡ Some m = rw (e, f) at h in
+    let k : keys ++ x ∷ [] ≡ m = cc in
+    (rw (← k) (stands_behind keys x), λ q g. rw (← k) (stands_on keys (x ∷ []) q g))
+
+kept : (keys xs more : List (List ℕ)) (q : List ℕ) → stands_in q keys ≡ true → pooled keys xs ≡ Some more → stands_in q more ≡ true
+unfolding pooled
+kept keys [] more q g h = let k : keys ≡ more = cc in rw (← k) g
+kept keys (x ∷ xs) more q g h =
+    let s = bind_some (added keys x) (λ m. pooled m xs) more h in
+    kept s.0 xs more q ((added_is keys s.0 x (stands_in x keys) (nat_lt 65535 (pool_end keys)) refl refl s.1.0).1 q g) s.1.1
+
+stands_step : (m xs more : List (List ℕ)) (x q : List ℕ) (b : Bool) → bytes_eq q x ≡ b → stands_in x m ≡ true → pooled m xs ≡ Some more → (stands_in q xs ≡ true → stands_in q more ≡ true) → cond b true (stands_in q xs) ≡ true → stands_in q more ≡ true
+stands_step m xs more x q true e g h f s = let k : q ≡ x = (bytes_eq-Decides q x).0 e in kept m xs more q (rw k g) h
+stands_step m xs more x q false e g h f s = f s
+
+-- a key that was met is in the pool
+stands_pooled : (keys xs more : List (List ℕ)) (q : List ℕ) → stands_in q xs ≡ true → pooled keys xs ≡ Some more → stands_in q more ≡ true
+unfolding pooled
+stands_pooled keys [] more q g h = absurd (let t : false ≡ true = g in cc)
+stands_pooled keys (x ∷ xs) more q g h =
+    let s = bind_some (added keys x) (λ m. pooled m xs) more h in
+    let there = (added_is keys s.0 x (stands_in x keys) (nat_lt 65535 (pool_end keys)) refl refl s.1.0).0 in
+    stands_step s.0 xs more x q (bytes_eq q x) refl there s.1.1 (λ r. stands_pooled s.0 xs more q r s.1.1) g
+
+again : (xs : List (List ℕ)) (q : List ℕ) (o : Option (List (List ℕ))) → stands_in q xs ≡ true → pooled [] xs ≡ o → (o >>= λ more. pooled more (q ∷ [])) ≡ o
+unfolding pooled
+again xs q None h e = refl
+again xs q (Some m) h e = rw (stands_pooled [] xs m q h e) refl
+
+-- a key that was met, met again, leaves the pool as it is
+pub pooled_again : (xs : List (List ℕ)) (q : List ℕ) → stands_in q xs ≡ true → pooled [] xs ≡ pooled [] (xs ++ q ∷ [])
+pooled_again xs q h = sym (pooled-append [] xs (q ∷ []) ∙ again xs q (pooled [] xs) h refl)
+
+pub stands_at : (xs : List (Bor (List ℕ))) (i : ℕ) (x : Bor (List ℕ)) (q : List ℕ) → Some x ≡ slice_get xs i → x.now ≡ q → stands_in q (bare xs) ≡ true
+stands_at [] i x q e h = absurd (let t : Some x ≡ (let none : Option (Bor (List ℕ)) = None in none) = e in cc)
+stands_at (y ∷ xs) zero x q e h = let k : x ≡ y = cc in rw (← h, k, (bytes_eq-Decides y.now y.now).1 refl) refl
+stands_at (y ∷ xs) (suc i) x q e h = or_true (bytes_eq q y.now) (stands_in q (bare xs)) (stands_at xs i x q e h)

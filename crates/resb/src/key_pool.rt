@@ -1,5 +1,5 @@
-ghost use Rattle.std.specs.Prelude.{◌≡◌, ℕ, [], ◌++◌, map, OnOk, IfOk};
-ghost use Rattle.resb_tree.specs.Keys.{keys_in};
+ghost use Rattle.std.specs.Prelude.{◌≡◌, ℕ, true, [], ◌∷◌, ◌++◌, map, OnOk, IfOk};
+ghost use Rattle.resb_tree.specs.Keys.{stands_in, keys_in};
 ghost use Rattle.resb.specs.Pool.{bare, place_of};
 ghost use Rattle.resb.specs.Plan.{told_values, added, pooled, Fills};
 ghost use Rattle.resb.specs.Writing.{keys_met, item_keys, entry_keys, pool_bytes, key_pool};
@@ -10,9 +10,30 @@ use sqlite_items::Items;
 use std::alloc::{AllocError, Global};
 use std::collections::BTreeMap;
 
+/// Whether a key is the last of those met, which are then no more with it.
+fn is_last(met: &[&[u8]], key: &[u8]) -> bool
+    ensures { result ≡ true → stands_in key.now (bare met.now) ≡ true }
+{
+    match met.last() {
+        Some(last) => *last == key,
+        None => false,
+    }
+}
+
+/// Appends a key, but not to the same key.
+fn meet<'a>(key: &'a [u8], met: &mut Vec<&'a [u8]>) -> Result<(), AllocError>
+    ensures { OnOk result (pooled [] (bare met.new.items) ≡ pooled [] (bare met.old.items ++ key.now ∷ [])) }
+{
+    if is_last(met.as_slice(), key) {
+        return Ok(());
+    }
+    met.push(key)?;
+    Ok(())
+}
+
 #[cycle(meet)]
 fn meet_items<'a>(items: &'a [Resource], met: &mut Vec<&'a [u8]>) -> Result<(), AllocError>
-    ensures { OnOk result (bare met.new.items ≡ bare met.old.items ++ item_keys (map keys_met items.now)) }
+    ensures { OnOk result (pooled [] (bare met.new.items) ≡ pooled [] (bare met.old.items ++ item_keys (map keys_met items.now))) }
 {
     for item in items {
         meet_keys(item, met)?;
@@ -25,20 +46,21 @@ fn meet_entries<'a>(
     entries: &'a [(Key, Resource)],
     met: &mut Vec<&'a [u8]>,
 ) -> Result<(), AllocError>
-    ensures { OnOk result (bare met.new.items ≡ bare met.old.items ++ entry_keys (told_values keys_met entries.now)) }
+    ensures { OnOk result (pooled [] (bare met.new.items) ≡ pooled [] (bare met.old.items ++ entry_keys (told_values keys_met entries.now))) }
 {
     for (key, value) in entries {
-        met.push(key.as_slice())?;
+        meet(key.as_slice(), met)?;
         meet_keys(value, met)?;
     }
     Ok(())
 }
 
-/// Appends the keys of a tree in the order in which a walk meets them, an entry's key before its value.
+/// Appends the keys of a tree in the order in which a walk meets them, an entry's key before its value; of equal keys one
+/// after the other only the first.
 #[cycle(meet)]
 #[tactic(auto, using(crate::proofs::Folds::meeting))]
 fn meet_keys<'a>(tree: &'a Resource, met: &mut Vec<&'a [u8]>) -> Result<(), AllocError>
-    ensures { OnOk result (bare met.new.items ≡ bare met.old.items ++ keys_met tree.now) }
+    ensures { OnOk result (pooled [] (bare met.new.items) ≡ pooled [] (bare met.old.items ++ keys_met tree.now)) }
 {
     match tree {
         Resource::Text(_) => Ok(()),
