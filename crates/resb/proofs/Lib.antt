@@ -13,3 +13,4 @@ pub mod GoodKeys
 pub mod Denotes
 pub mod OneZone
 pub mod TypeSizes
+pub mod Within

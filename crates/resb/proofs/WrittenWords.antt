@@ -11,12 +11,13 @@ use Rattle.resb_tree.specs.declared.error.ResbError.TheVariants.{Memory, NoTree,
 use Rattle.resb_tree.specs.declared.resource.Resource.{Resource}
 use Rattle.resb_tree.specs.Keys.{stands_in}
 use Rattle.resb.specs.Pool.{place_of, pool_end}
-use Rattle.resb.specs.Plan.{pooled, Fills, Fits, Suits, Refuses, keys_end}
-use Rattle.resb_tree.specs.Weight.{weight, spent_by}
+use Rattle.resb.specs.Plan.{pooled, within, Fills, Fits, Suits, Refuses, keys_end}
+use Rattle.resb_tree.specs.Weight.{weight}
 use Rattle.resb.specs.Writing.{pack_bytes, pool_bytes, key_pool, keys_met, first_keys, key_place, places_of, most_of, most_entries, depth, has_wide_integer, has_bad_key, laid, header, written_body, written, is_too_large, writing, Writes}
 use Rattle.resb_tree.proofs.KeySets.{bytes_eq_sym}
 use Rattle.resb.proofs.LaidWords.{left_false, right_false, length-pack_bytes}
 use Rattle.resb.proofs.Pools.{all_pooled, pooled_is}
+use Rattle.resb.proofs.Within.{not_found, within_none}
 
 -- ---- the words
 
@@ -143,8 +144,9 @@ too_large t good large = rw (good, large) refl
 pub bad_key_told : (t : Resource) → has_bad_key t ≡ true → writing t ≡ Err BadKey
 bad_key_told t bad = rw bad refl
 
-pub depth_told : (t : Resource) → has_bad_key t ≡ false → nat_lt 8 (depth t) ≡ true → writing t ≡ Err TooLarge
-depth_told t good deep = too_large t good (not_kept t (λ k. absurd (let f : nat_lt 8 (depth t) ≡ false = le-ltb 8 (depth t) k.shallow in cc)))
+-- no tree weighs more than 8 times the most words
+pub limits_told : (t : Resource) (most : ℕ) → has_bad_key t ≡ false → not_found ≡ within 8 8388608 (depth t) (weight t) most → writing t ≡ Err TooLarge
+limits_told t most good h = too_large t good (not_kept t (λ k. within_none 8 8388608 (depth t) (weight t) most h k.shallow (omega (arith, k.light, k.words))))
 
 no_pool : (t : Resource) (b : Bool) → nat_lt 65535 (most_of (places_of (key_pool t) 32)) ≡ b → (let none : Option (List (List ℕ)) = None in cond b none (Some (key_pool t)) ≡ none) → b ≡ true
 no_pool t true e h = refl
@@ -180,11 +182,11 @@ pool_is t pool h = (pool_found t pool (nat_lt 65535 (most_of (places_of (key_poo
 pool_near : (t : Resource) (pool : List (List ℕ)) → pooled [] (keys_met t) ≡ Some pool → most_of (places_of (key_pool t) 32) ≤ 65535
 pool_near t pool h = not_lt 65535 (most_of (places_of (key_pool t) 32)) (pool_found t pool (nat_lt 65535 (most_of (places_of (key_pool t) 32))) refl (rw (pooled_all t) at h)).1
 
-pub words_told : (t : Resource) (pool : List (List ℕ)) (words : List ℕ) → has_bad_key t ≡ false → nat_lt 8 (depth t) ≡ false → pooled [] (keys_met t) ≡ Some pool → Suits t → words ≡ written t → writing t ≡ Ok words
+pub words_told : (t : Resource) (pool : List (List ℕ)) (words : List ℕ) → has_bad_key t ≡ false → depth t ≤ 8 → pooled [] (keys_met t) ≡ Some pool → Suits t → words ≡ written t → writing t ≡ Ok words
 words_told t pool words good shallow found s is =
     let k : Kept t = record {
       words = omega (arith, s.fits.room, length-written t);
-      shallow = not_lt 8 (depth t) shallow;
+      shallow = shallow;
       near = pool_near t pool found;
       counts = s.fits.counts;
       small = s.fits.small;
@@ -215,18 +217,6 @@ length_told t keys end n old resources o h e is c =
     let r : resources ≡ (laid t (place_of (key_pool t)) (keys_end t)).0 = rw (at, h, o) at is in
     omega (arith, c, ap length r, keys_end_is t keys end h e)
 
-pub too_heavy : (o : Option ℕ) (limit w : ℕ) → o ≡ spent_by limit w → is_none o ≡ true → limit < w
-too_heavy o limit w e none = elim (leb_tells w limit) [
-  | inl h ↦ absurd (let f : o ≡ Some (limit - w) = rw h.0 at e in let g : false ≡ true = rw f at none in cc)
-  | inr h ↦ h.1
-]
-
-pub light_enough : (o : Option ℕ) (limit w : ℕ) → o ≡ spent_by limit w → is_none o ≡ false → w ≤ limit
-light_enough o limit w e some = elim (leb_tells w limit) [
-  | inl h ↦ h.1
-  | inr h ↦ absurd (let none : Option ℕ = None in let f : o ≡ none = rw h.0 at e in let g : true ≡ false = rw f at some in cc)
-]
-
 pub words_done : (t : Resource) (keys : List (List ℕ)) (at here end n most root : ℕ) (old resources front packed all : List ℕ) → all ≡ header ++ (front ++ packed ++ resources) → front ≡ root ∷ 7 ∷ here ∷ end ∷ end ∷ most ∷ 0 ∷ here ∷ []
     → end ≡ here + n → n ≡ length resources → packed ≡ pack_bytes (pool_bytes keys) → resources ≡ old ++ (laid t (place_of keys) at).0 → root ≡ (laid t (place_of keys) at).1 → most ≡ most_entries t
     → old ≡ [] → keys ≡ key_pool t → at ≡ keys_end t → here ≡ keys_end t → all ≡ written t
@@ -239,7 +229,7 @@ pub error_on : {X : Type 0} (view : X → List ℕ) (x : Result X ResbError) (e 
 error_on view (Ok v) e plan h was = absurd h
 error_on view (Err y) e plan h was = rw h was
 
-pub result_told : {X : Type 0} (view : X → List ℕ) (t : Resource) (pool : List (List ℕ)) (x : Result X ResbError) → has_bad_key t ≡ false → nat_lt 8 (depth t) ≡ false → pooled [] (keys_met t) ≡ Some pool
+pub result_told : {X : Type 0} (view : X → List ℕ) (t : Resource) (pool : List (List ℕ)) (x : Result X ResbError) → has_bad_key t ≡ false → depth t ≤ 8 → pooled [] (keys_met t) ≡ Some pool
     → IfOk x (λ v. view v ≡ written t) → OnOk x (Suits t) → IfErr x (Refuses (Suits t)) → Writes view x (writing t)
 result_told view t pool (Ok v) good shallow found words suits refused = words_told t pool (view v) good shallow found suits words
 result_told view t pool (Err e) good shallow found words suits refused = refusal_told t e view good refused

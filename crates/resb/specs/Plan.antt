@@ -1,5 +1,5 @@
 -- The keys' places and the limits of the words that are written.
-use Rattle.std.specs.Prelude.{◌≡◌, ℕ, ◌+◌, ◌*◌, ◌≤◌, false, List, [], ◌∷◌, ◌++◌, length, map, Option, Some, None, Result, Ok, Err, if◌then◌else◌, nat_lt}
+use Rattle.std.specs.Prelude.{◌≡◌, ℕ, ◌+◌, ◌-◌, ◌*◌, ◌≤◌, ◌||◌, false, List, [], ◌∷◌, ◌++◌, length, map, Option, Some, None, Result, Ok, Err, if◌then◌else◌, nat_lt}
 use Rattle.resb_tree.specs.Keys.{stands_in}
 use Rattle.resb.specs.Pool.{bare, place_of, pool_end}
 use Rattle.resb_tree.specs.Tree.{◌>>=◌}
@@ -56,6 +56,10 @@ abbrev pub table_of : List (List ℕ × Resource) → Resource
 table_of entries = r.Table entries
 
 -- ---- limits
+
+-- what a weight leaves of a limit, with the greatest number of entries, where depth and weight keep their limits
+abbrev pub within : ℕ → ℕ → ℕ → ℕ → ℕ → Option (ℕ × ℕ)
+within levels limit depth weight most = if nat_lt levels depth || nat_lt limit weight then None else Some (limit - weight, most)
 
 -- a tree that is laid from a body word on stays within the limits
 pub record Fits (t : Resource) (places : List ℕ → ℕ) (at : ℕ) : Type 0 where

@@ -1,141 +1,78 @@
 ghost use Rattle.std.specs.Prelude.{◌≡◌, ◌+◌, ◌&&◌, map, nat_lt, length, Some, None, IfOk};
 ghost use Rattle.resb_tree.specs.Keys.{keys_in};
-ghost use Rattle.resb.specs.Plan.{values_in};
-ghost use Rattle.resb_tree.specs.Weight.{weight, weights, entry_weights, spent_by};
+ghost use Rattle.resb.specs.Plan.{values_in, within};
+ghost use Rattle.resb_tree.specs.Weight.{weight, weights, entry_weights};
 ghost use Rattle.resb.specs.Writing.{most_of, most_entries, depth, is_key, all_keys, any_bad, has_bad_key};
 
 use resb_tree::{Key, Resource, are_distinct};
 use sqlite_items::Items;
 use std::alloc::{AllocError, Global};
 
-/// What a weight leaves of a limit, where that is enough.
-fn less(limit: usize, weight: usize) -> Option<usize>
-    ensures { result ≡ spent_by limit weight }
+/// What a resource without others in it leaves of a limit, with no table's entries.
+fn leaf(limit: usize, parts: usize) -> Option<(usize, usize)>
+    ensures { result ≡ within 0 limit 0 parts 0 }
 {
-    if weight > limit {
+    if parts > limit {
         return None;
     }
-    Some(limit - weight)
+    Some((limit - parts, 0))
 }
 
-/// What the items' weight leaves of a limit.
-#[cycle(weigh)]
-fn weigh_items(items: &[Resource], limit: usize) -> Option<usize>
-    ensures { result ≡ spent_by limit (weights items.now) }
+/// The same of items one after the other.
+#[cycle(measure)]
+fn measure_items(items: &[Resource], levels: u8, limit: usize) -> Option<(usize, usize)>
+    ensures { result ≡ within levels limit (most_of (map depth items.now)) (weights items.now) (most_of (map most_entries items.now)) }
 {
     let mut left = limit;
+    let mut most = 0;
     for item in items {
-        left = weigh(item, left)?;
+        let (rest, own) = measure(item, levels, left)?;
+        left = rest;
+        most = own.max(most);
     }
-    Some(left)
+    Some((left, most))
 }
 
-/// What the weight of keys and values leaves of a limit.
-#[cycle(weigh)]
-fn weigh_entries(entries: &[(Key, Resource)], limit: usize) -> Option<usize>
-    ensures { result ≡ spent_by limit (entry_weights entries.now) }
+/// The same of keys and values one after the other.
+#[cycle(measure)]
+fn measure_entries(entries: &[(Key, Resource)], levels: u8, limit: usize) -> Option<(usize, usize)>
+    ensures { result ≡ within levels limit (most_of (map depth (values_in entries.now))) (entry_weights entries.now) (most_of (map most_entries (values_in entries.now))) }
 {
     let mut left = limit;
+    let mut most = 0;
     for (key, value) in entries {
-        left = less(left, key.len())?;
-        left = weigh(value, left)?;
-    }
-    Some(left)
-}
-
-/// What a tree's weight leaves of a limit, where that is enough.
-#[cycle(weigh)]
-#[tactic(auto, using(resb_tree::proofs::Weights::weighing))]
-pub fn weigh(tree: &Resource, limit: usize) -> Option<usize>
-    ensures { result ≡ spent_by limit (weight tree.now) }
-{
-    match tree {
-        Resource::Text(units) => less(less(limit, 1)?, units.len()),
-        Resource::Bytes(bytes) => less(less(limit, 1)?, bytes.len()),
-        Resource::Table(entries) => weigh_entries(entries.as_slice(), less(limit, 1)?),
-        Resource::Integer(_) => less(limit, 1),
-        Resource::Array(items) => weigh_items(items.as_slice(), less(limit, 1)?),
-        Resource::Integers(values) => less(less(limit, 1)?, values.len()),
-    }
-}
-
-/// Whether an item is deeper than so many levels.
-#[cycle(deep)]
-fn items_deeper(items: &[Resource], levels: u8) -> bool
-    ensures { result ≡ nat_lt levels (most_of (map depth items.now)) }
-{
-    for item in items {
-        if is_deeper(item, levels) {
-            return true;
+        let bytes = key.len();
+        if bytes > left {
+            return None;
         }
+        let (rest, own) = measure(value, levels, left - bytes)?;
+        left = rest;
+        most = own.max(most);
     }
-    false
+    Some((left, most))
 }
 
-/// Whether a value is deeper than so many levels.
-#[cycle(deep)]
-fn values_deeper(entries: &[(Key, Resource)], levels: u8) -> bool
-    ensures { result ≡ nat_lt levels (most_of (map depth (values_in entries.now))) }
+/// What a tree's weight leaves of a limit, and the greatest number of entries of a table (0 without a table), where the tree
+/// is no deeper than so many levels and the limit is enough.
+#[cycle(measure)]
+pub fn measure(tree: &Resource, levels: u8, limit: usize) -> Option<(usize, usize)>
+    ensures { result ≡ within levels limit (depth tree.now) (weight tree.now) (most_entries tree.now) }
 {
-    for (_, value) in entries {
-        if is_deeper(value, levels) {
-            return true;
+    if levels == 0 || limit == 0 {
+        return None;
+    }
+    let inside = levels - 1;
+    let left = limit - 1;
+    match tree {
+        Resource::Text(units) => leaf(left, units.len()),
+        Resource::Bytes(bytes) => leaf(left, bytes.len()),
+        Resource::Table(entries) => {
+            let (left, most) = measure_entries(entries.as_slice(), inside, left)?;
+            Some((left, entries.len().max(most)))
         }
-    }
-    false
-}
-
-/// Whether a tree is deeper than so many levels.
-#[cycle(deep)]
-#[tactic(auto, using(crate::proofs::Folds::depths))]
-pub fn is_deeper(tree: &Resource, levels: u8) -> bool
-    ensures { result ≡ nat_lt levels (depth tree.now) }
-{
-    match tree {
-        Resource::Text(_) => levels == 0,
-        Resource::Bytes(_) => levels == 0,
-        Resource::Table(entries) => levels == 0 || values_deeper(entries.as_slice(), levels - 1),
-        Resource::Integer(_) => levels == 0,
-        Resource::Array(items) => levels == 0 || items_deeper(items.as_slice(), levels - 1),
-        Resource::Integers(_) => levels == 0,
-    }
-}
-
-#[cycle(most)]
-fn most_in_items(items: &[Resource]) -> usize
-    ensures { result ≡ most_of (map most_entries items.now) }
-{
-    let mut most = 0;
-    for item in items {
-        most = most_entries(item).max(most);
-    }
-    most
-}
-
-#[cycle(most)]
-fn most_in_values(entries: &[(Key, Resource)]) -> usize
-    ensures { result ≡ most_of (map most_entries (values_in entries.now)) }
-{
-    let mut most = 0;
-    for (_, value) in entries {
-        most = most_entries(value).max(most);
-    }
-    most
-}
-
-/// The greatest number of entries of a table, 0 without a table.
-#[cycle(most)]
-#[tactic(auto, using(crate::proofs::Folds::counting_entries))]
-pub fn most_entries(tree: &Resource) -> usize
-    ensures { result ≡ most_entries tree.now }
-{
-    match tree {
-        Resource::Text(_) => 0,
-        Resource::Bytes(_) => 0,
-        Resource::Table(entries) => entries.len().max(most_in_values(entries.as_slice())),
-        Resource::Integer(_) => 0,
-        Resource::Array(items) => most_in_items(items.as_slice()),
-        Resource::Integers(_) => 0,
+        Resource::Integer(_) => leaf(left, 0),
+        Resource::Array(items) => measure_items(items.as_slice(), inside, left),
+        Resource::Integers(values) => leaf(left, values.len()),
     }
 }
 

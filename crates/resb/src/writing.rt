@@ -3,11 +3,12 @@ ghost use Rattle.std.specs.Global.{Global};
 ghost use Rattle.resb.specs.Pool.{bare};
 ghost use Rattle.resb.specs.Plan.{Suits, Refuses};
 ghost use Rattle.resb_tree.specs.Header.{tree_of};
-ghost use Rattle.resb.specs.Writing.{pack_bytes, pool_bytes, key_pool, header, written, writing, Writes};
+ghost use Rattle.resb_tree.specs.Weight.{weight};
+ghost use Rattle.resb.specs.Writing.{pack_bytes, pool_bytes, key_pool, header, most_entries, written, writing, Writes};
 
 use crate::key_pool::key_pool;
 use crate::laying::{MOST_WORDS, lay};
-use crate::measures::{has_bad_key, is_deeper, most_entries, weigh};
+use crate::measures::{has_bad_key, measure};
 use crate::packing::push_bytes;
 use crate::pool::KeyPool;
 use crate::typed::parts_typed;
@@ -16,6 +17,9 @@ use std::alloc::{AllocError, Global};
 
 /// How deep a tree may be.
 const DEPTH: u8 = 8;
+
+/// The most that a tree may weigh: 8 times the most words.
+const WEIGHT: usize = 8_388_608;
 
 /// The header, of 24 bytes.
 const HEADER: [u32; 6] = [0x27DA_0018, 0x14, 0x2_0000, 0x4273_6552, 2, 0];
@@ -71,8 +75,16 @@ fn joined(
 }
 
 /// The words of a tree, whose keys the pool has.
-fn words_of(alloc: Global, tree: &Resource, pool: &KeyPool<'_>) -> Result<Vec<u32>, ResbError>
-    requires { bare pool.now.keys.items ≡ key_pool tree.now }
+fn words_of(
+    alloc: Global,
+    tree: &Resource,
+    pool: &KeyPool<'_>,
+    weighed: usize,
+    most: usize,
+) -> Result<Vec<u32>, ResbError>
+    requires pool { bare pool.now.keys.items ≡ key_pool tree.now }
+    requires weight { weighed ≡ weight tree.now }
+    requires most { most ≡ most_entries tree.now }
     ensures words { IfOk result (λ words. words.items ≡ written tree.now) }
     ensures suits { OnOk result (Suits tree.now) }
     ensures refused { IfErr result (Refuses (Suits tree.now)) }
@@ -85,11 +97,11 @@ fn words_of(alloc: Global, tree: &Resource, pool: &KeyPool<'_>) -> Result<Vec<u3
     let mut stack = Vec::new(alloc);
     let root = lay(tree, pool, keys_end, &mut resources, &mut stack)?;
     let end = keys_end + resources.len();
-    if weigh(tree, 8 * (6 + end)).is_none() {
+    if weighed > 8 * (6 + end) {
         return Err(ResbError::TooLarge);
     }
     let keys = key_words(alloc, pool.keys.as_slice())?;
-    let front = front_words(root, keys_end, end, most_entries(tree));
+    let front = front_words(root, keys_end, end, most);
     Ok(joined(
         alloc,
         front.as_slice(),
@@ -105,11 +117,11 @@ fn planned_words(alloc: Global, tree: &Resource) -> Result<Vec<u32>, ResbError>
     if has_bad_key(alloc, tree)? {
         return Err(ResbError::BadKey);
     }
-    if is_deeper(tree, DEPTH) {
+    let Some((left, most)) = measure(tree, DEPTH, WEIGHT) else {
         return Err(ResbError::TooLarge);
-    }
+    };
     let pool = key_pool(alloc, tree)?;
-    words_of(alloc, tree, &pool)
+    words_of(alloc, tree, &pool, WEIGHT - left, most)
 }
 
 #[tactic(auto, using(crate::proofs::Denotes::writing_denotes))]
