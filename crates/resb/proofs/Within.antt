@@ -81,11 +81,16 @@ within_inner levels limit d w m p q =
     let e : limit - 1 - w ≡ limit - (1 + w) = omega arith in
     rw (a, b, e) refl
 
-pub within_counted : (levels limit d w m n left own : ℕ) → Some (left, own) ≡ within levels limit d w m → Some (left, max n own) ≡ within levels limit d w (max n m)
-within_counted levels limit d w m n left own h =
-    let p = within_some levels limit d w m left own h in
+-- what stands in a table of n entries
+pub within_table : (levels limit d w m n left own : ℕ) → 0 < levels → 0 < limit → Some (left, own) ≡ within (levels - 1) (limit - 1) d w m → Some (left, max n own) ≡ within levels limit (1 + d) (1 + w) (max n m)
+within_table levels limit d w m n left own a b h =
+    let p = within_some levels limit (1 + d) (1 + w) m left own (h ∙ within_inner levels limit d w m a b) in
     let same : own ≡ m = p.1.1 in
-    some_within levels limit d w (max n m) left (max n own) p.0 p.1.0 (omega arith)
+    some_within levels limit (1 + d) (1 + w) (max n m) left (max n own) p.0 p.1.0 (omega arith)
+
+pub no_table_within : (levels limit d w m n : ℕ) → 0 < levels → 0 < limit → not_found ≡ within (levels - 1) (limit - 1) d w m → not_found ≡ within levels limit (1 + d) (1 + w) n
+no_table_within levels limit d w m n a b h =
+    none_within levels limit (1 + d) (1 + w) n (within_none levels limit (1 + d) (1 + w) m (h ∙ within_inner levels limit d w m a b))
 
 heavy : (t : Resource) → 0 < weight t
 heavy = by_variant (λ t. 0 < weight t) (λ v. omega (arith, weight-Text v)) (λ v. omega (arith, weight-Bytes v)) (λ v. omega (arith, weight-Table v)) (λ v. omega (arith, weight-Integer v)) (λ v. omega (arith, weight-Array v)) (λ v. omega (arith, weight-Integers v))
@@ -96,9 +101,6 @@ within_nothing t levels limit m h =
     let p = deep t in
     let q = heavy t in
     none_within levels limit (depth t) (weight t) m (λ a b. h (omega (arith, p)) (omega arith))
-
-pub within_uncounted : (levels limit d w m n : ℕ) → not_found ≡ within levels limit d w m → not_found ≡ within levels limit d w n
-within_uncounted levels limit d w m n h = none_within levels limit d w n (within_none levels limit d w m h)
 
 -- a resource without others in it
 pub within_leaf : (levels limit n parts : ℕ) (found : Found) → 0 < levels → 0 < limit → parts ≡ n → found ≡ within 0 (limit - 1) 0 parts 0 → found ≡ within levels limit 1 (1 + n) 0

@@ -1,6 +1,6 @@
 -- The words of a bundle, and when there are none.
-use Rattle.std.proofs.Common.{◌≡◌, ℕ, ◌+◌, ◌-◌, ◌*◌, ◌/◌, ◌<◌, ◌≤◌, Bool, true, false, cond, List, [], ◌∷◌, ◌++◌, length, Option, Some, None, refl, sym, ap, ◌∙◌, max, append_assoc, inl, inr, arith}
-use Rattle.std.specs.Prelude.{map, nat_lt, ◌||◌, Result, Ok, Err, IfOk, OnOk, IfErr, IsErrAnd, is_none}
+use Rattle.std.proofs.Common.{◌≡◌, ℕ, ◌+◌, ◌-◌, ◌*◌, ◌/◌, ◌≤◌, Bool, true, false, cond, List, [], ◌∷◌, ◌++◌, length, Option, Some, None, refl, sym, ap, ◌∙◌, max, append_assoc, inl, inr, arith}
+use Rattle.std.specs.Prelude.{map, nat_lt, ◌||◌, Result, Ok, Err, IfOk, OnOk, IfErr, IsErrAnd}
 use Rattle.std.specs.Str.{bytes_eq}
 use Rattle.std.proofs.lemmas.Bool.{lt-ltb, le-ltb}
 use Rattle.std.proofs.lemmas.Bool.Decides.{leb_tells}

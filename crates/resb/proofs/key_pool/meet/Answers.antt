@@ -1,5 +1,3 @@
-use Rattle.std.proofs.Common.{rules, ◌≡◌, true, sym, ◌∙◌}
-use Rattle.resb_tree.specs.Keys.{stands_in}
 use Rattle.resb.specs.Pool.{bare}
 use Rattle.resb.proofs.Pools.{pooled_again}
 use Rattle.resb.proofs.key_pool.meet.Goals as goal

@@ -1,10 +1,10 @@
-use Rattle.std.proofs.Common.{◌≡◌, ◌<◌, ◌+◌, ◌∙◌, length, map, max, refl, arith}
+use Rattle.std.proofs.Common.{◌∙◌, length, map, max, refl, arith}
 use Rattle.resb_tree.specs.Weight.{weights, entry_weights}
 use Rattle.resb_tree.proofs.Weights.{weight-Text, weight-Bytes, weight-Integers, weight-Integer, weight-Array, weight-Table}
 use Rattle.resb.specs.Plan.{values_in}
 use Rattle.resb.specs.Writing.{depth, most_of, most_entries}
 use Rattle.resb.proofs.Folds.{depth-Text, depth-Bytes, depth-Integers, depth-Integer, depth-Array, depth-Table, most_entries-Text, most_entries-Bytes, most_entries-Integers, most_entries-Integer, most_entries-Array, most_entries-Table}
-use Rattle.resb.proofs.Within.{within_nothing, within_leaf, within_inner, within_counted, within_uncounted}
+use Rattle.resb.proofs.Within.{within_nothing, within_leaf, within_inner, within_table, no_table_within}
 use Rattle.resb.proofs.measures.+measure.Goals as goal
 use Rattle.resb.proofs.measures.+measure.Goals.{measure-then-levels-eq0-via-then-levels-eq0, measure-then-levels-eq0-via-else-levels-eq0+then-limit-eq0}
 
@@ -44,15 +44,12 @@ measure-returns-in-Array t c =
 pub measure-returns-in_ok-left-in-Table : goal.measure-returns-in_ok-left-in-Table
 measure-returns-in_ok-left-in-Table t c =
     let v = c.in-Table.entries in
-    let most = most_of (map most_entries (values_in v)) in
-    let inner = within_inner c.args.levels c.args.limit (most_of (map depth (values_in v))) (entry_weights v) most (omega arith) (omega arith) in
     rw (c.in-Table.is, depth-Table v, weight-Table v, most_entries-Table v, c.max.ensures, c.len-in-Table.ensures)
-    (within_counted c.args.levels c.args.limit (1 + most_of (map depth (values_in v))) (1 + entry_weights v) most (length v) c.in_ok-left-in-Table.left c.in_ok-left-in-Table.most ((rw c.as_slice.ensures at c.in_ok-left-in-Table.ensures) ∙ inner))
+    (within_table c.args.levels c.args.limit (most_of (map depth (values_in v))) (entry_weights v) (most_of (map most_entries (values_in v))) (length v) c.in_ok-left-in-Table.left c.in_ok-left-in-Table.most (omega arith) (omega arith) (rw c.as_slice.ensures at c.in_ok-left-in-Table.ensures))
 
 pub measure-returns-in_err-left-in-Table : goal.measure-returns-in_err-left-in-Table
 measure-returns-in_err-left-in-Table t c =
     let v = c.in-Table.entries in
     let most = most_of (map most_entries (values_in v)) in
-    let inner = within_inner c.args.levels c.args.limit (most_of (map depth (values_in v))) (entry_weights v) most (omega arith) (omega arith) in
     rw (c.from_residual.ensures, c.in-Table.is, depth-Table v, weight-Table v, most_entries-Table v)
-    (within_uncounted c.args.levels c.args.limit (1 + most_of (map depth (values_in v))) (1 + entry_weights v) most (max (length v) most) ((rw c.as_slice.ensures at c.in_err-left-in-Table.ensures) ∙ inner))
+    (no_table_within c.args.levels c.args.limit (most_of (map depth (values_in v))) (entry_weights v) most (max (length v) most) (omega arith) (omega arith) (rw c.as_slice.ensures at c.in_err-left-in-Table.ensures))
