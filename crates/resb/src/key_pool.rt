@@ -22,7 +22,8 @@ fn is_last(met: &[&[u8]], key: &[u8]) -> bool
 
 /// Appends a key, but not to the same key.
 fn meet<'a>(key: &'a [u8], met: &mut Vec<&'a [u8]>) -> Result<(), AllocError>
-    ensures { OnOk result (pooled [] (bare met.new.items) ≡ pooled [] (bare met.old.items ++ key.now ∷ [])) }
+    ensures { OnOk result (pooled [] (bare met.new.items)
+        ≡ pooled [] (bare met.old.items ++ key.now ∷ [])) }
 {
     if is_last(met.as_slice(), key) {
         return Ok(());
@@ -33,7 +34,8 @@ fn meet<'a>(key: &'a [u8], met: &mut Vec<&'a [u8]>) -> Result<(), AllocError>
 
 #[cycle(meet)]
 fn meet_items<'a>(items: &'a [Resource], met: &mut Vec<&'a [u8]>) -> Result<(), AllocError>
-    ensures { OnOk result (pooled [] (bare met.new.items) ≡ pooled [] (bare met.old.items ++ item_keys (map keys_met items.now))) }
+    ensures { OnOk result (pooled [] (bare met.new.items)
+        ≡ pooled [] (bare met.old.items ++ item_keys (map keys_met items.now))) }
 {
     for item in items {
         meet_keys(item, met)?;
@@ -46,7 +48,8 @@ fn meet_entries<'a>(
     entries: &'a [(Key, Resource)],
     met: &mut Vec<&'a [u8]>,
 ) -> Result<(), AllocError>
-    ensures { OnOk result (pooled [] (bare met.new.items) ≡ pooled [] (bare met.old.items ++ entry_keys (told_values keys_met entries.now))) }
+    ensures { OnOk result (pooled [] (bare met.new.items)
+        ≡ pooled [] (bare met.old.items ++ entry_keys (told_values keys_met entries.now))) }
 {
     for (key, value) in entries {
         meet(key.as_slice(), met)?;
@@ -60,7 +63,8 @@ fn meet_entries<'a>(
 #[cycle(meet)]
 #[tactic(auto, using(crate::proofs::Folds::meeting))]
 fn meet_keys<'a>(tree: &'a Resource, met: &mut Vec<&'a [u8]>) -> Result<(), AllocError>
-    ensures { OnOk result (pooled [] (bare met.new.items) ≡ pooled [] (bare met.old.items ++ keys_met tree.now)) }
+    ensures { OnOk result (pooled [] (bare met.new.items)
+        ≡ pooled [] (bare met.old.items ++ keys_met tree.now)) }
 {
     match tree {
         Resource::Text(_) => Ok(()),
@@ -74,7 +78,8 @@ fn meet_keys<'a>(tree: &'a Resource, met: &mut Vec<&'a [u8]>) -> Result<(), Allo
 
 /// The pool with a key, where the key's place fits 16 bits.
 fn with_key<'a>(mut pool: KeyPool<'a>, key: &'a [u8]) -> Result<KeyPool<'a>, ResbError>
-    ensures { Fills (λ (p : KeyPool). bare p.keys.items) result (added (bare pool.entry.keys.items) key.now) }
+    ensures { Fills (λ (p : KeyPool). bare p.keys.items) result
+        (added (bare pool.entry.keys.items) key.now) }
 {
     if pool.places.get(key).is_some() {
         return Ok(pool);

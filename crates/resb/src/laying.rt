@@ -36,10 +36,16 @@ fn has_room(base: usize, out: &Vec<u32>, more: usize) -> bool
 #[tactic(auto, using(crate::proofs::LaidWords::leaves))]
 fn lay_text(units: &[u16], base: usize, out: &mut Vec<u32>) -> Result<u32, ResbError>
     requires { base + length out.old.items ≤ 1048570 }
-    ensures words { OnOk result (out.new.items ≡ out.old.items ++ (text_laid units.now no_places (base + length out.old.items)).0) }
-    ensures item { IfOk result (λ v. v ≡ (text_laid units.now no_places (base + length out.old.items)).1) }
-    ensures fits { OnOk result (base + length out.old.items + length (text_laid units.now no_places (base + length out.old.items)).0 ≤ 1048570) }
-    ensures refused { IfErr result (Refuses (base + length out.old.items + length (text_laid units.now no_places (base + length out.old.items)).0 ≤ 1048570)) }
+    ensures words { OnOk result (out.new.items ≡ out.old.items
+        ++ (text_laid units.now no_places (base + length out.old.items)).0) }
+    ensures item { IfOk result
+        (λ v. v ≡ (text_laid units.now no_places (base + length out.old.items)).1) }
+    ensures fits { OnOk result
+        (base + length out.old.items
+        + length (text_laid units.now no_places (base + length out.old.items)).0 ≤ 1048570) }
+    ensures refused { IfErr result
+        (Refuses (base + length out.old.items
+        + length (text_laid units.now no_places (base + length out.old.items)).0 ≤ 1048570)) }
 {
     let count = units.len();
     if count == 0 {
@@ -58,10 +64,16 @@ fn lay_text(units: &[u16], base: usize, out: &mut Vec<u32>) -> Result<u32, ResbE
 #[tactic(auto, using(crate::proofs::LaidWords::leaves))]
 fn lay_bytes(bytes: &[u8], base: usize, out: &mut Vec<u32>) -> Result<u32, ResbError>
     requires { base + length out.old.items ≤ 1048570 }
-    ensures words { OnOk result (out.new.items ≡ out.old.items ++ (bytes_laid bytes.now no_places (base + length out.old.items)).0) }
-    ensures item { IfOk result (λ v. v ≡ (bytes_laid bytes.now no_places (base + length out.old.items)).1) }
-    ensures fits { OnOk result (base + length out.old.items + length (bytes_laid bytes.now no_places (base + length out.old.items)).0 ≤ 1048570) }
-    ensures refused { IfErr result (Refuses (base + length out.old.items + length (bytes_laid bytes.now no_places (base + length out.old.items)).0 ≤ 1048570)) }
+    ensures words { OnOk result (out.new.items ≡ out.old.items
+        ++ (bytes_laid bytes.now no_places (base + length out.old.items)).0) }
+    ensures item { IfOk result
+        (λ v. v ≡ (bytes_laid bytes.now no_places (base + length out.old.items)).1) }
+    ensures fits { OnOk result
+        (base + length out.old.items
+        + length (bytes_laid bytes.now no_places (base + length out.old.items)).0 ≤ 1048570) }
+    ensures refused { IfErr result
+        (Refuses (base + length out.old.items
+        + length (bytes_laid bytes.now no_places (base + length out.old.items)).0 ≤ 1048570)) }
 {
     let count = bytes.len();
     if count == 0 {
@@ -80,10 +92,16 @@ fn lay_bytes(bytes: &[u8], base: usize, out: &mut Vec<u32>) -> Result<u32, ResbE
 #[tactic(auto, using(crate::proofs::LaidWords::leaves))]
 fn lay_integers(values: &[u32], base: usize, out: &mut Vec<u32>) -> Result<u32, ResbError>
     requires { base + length out.old.items ≤ 1048570 }
-    ensures words { OnOk result (out.new.items ≡ out.old.items ++ (integers_laid values.now no_places (base + length out.old.items)).0) }
-    ensures item { IfOk result (λ v. v ≡ (integers_laid values.now no_places (base + length out.old.items)).1) }
-    ensures fits { OnOk result (base + length out.old.items + length (integers_laid values.now no_places (base + length out.old.items)).0 ≤ 1048570) }
-    ensures refused { IfErr result (Refuses (base + length out.old.items + length (integers_laid values.now no_places (base + length out.old.items)).0 ≤ 1048570)) }
+    ensures words { OnOk result (out.new.items ≡ out.old.items
+        ++ (integers_laid values.now no_places (base + length out.old.items)).0) }
+    ensures item { IfOk result
+        (λ v. v ≡ (integers_laid values.now no_places (base + length out.old.items)).1) }
+    ensures fits { OnOk result
+        (base + length out.old.items
+        + length (integers_laid values.now no_places (base + length out.old.items)).0 ≤ 1048570) }
+    ensures refused { IfErr result
+        (Refuses (base + length out.old.items
+        + length (integers_laid values.now no_places (base + length out.old.items)).0 ≤ 1048570)) }
 {
     let count = values.len();
     if count == 0 {
@@ -117,9 +135,11 @@ fn push_places(
     out: &mut Vec<u32>,
 ) -> Result<(), ResbError>
     requires { length entries.now ≤ 65535 }
-    ensures words { OnOk result (out.new.items ≡ out.old.items ++ pack_units (length entries.now ∷ map (places_in pool.now) (keys_in entries.now))) }
+    ensures words { OnOk result (out.new.items ≡ out.old.items
+        ++ pack_units (length entries.now ∷ map (places_in pool.now) (keys_in entries.now))) }
     ensures fits { OnOk result (most_of (map (places_in pool.now) (keys_in entries.now)) ≤ 65535) }
-    ensures refused { IfErr result (Refuses (most_of (map (places_in pool.now) (keys_in entries.now)) ≤ 65535)) }
+    ensures refused { IfErr result
+        (Refuses (most_of (map (places_in pool.now) (keys_in entries.now)) ≤ 65535)) }
 {
     let mut low = entries.len() as u16;
     let mut rest = entries;
@@ -159,10 +179,15 @@ fn lay_items(
     stack: &mut Vec<u32>,
 ) -> Result<(), ResbError>
     requires { base + length out.old.items ≤ 1048570 }
-    ensures words { OnOk result (out.new.items ≡ out.old.items ++ (lay_all (map laid items.now) (places_in pool.now) (base + length out.old.items)).0) }
-    ensures items { OnOk result (stack.new.items ≡ stack.old.items ++ (lay_all (map laid items.now) (places_in pool.now) (base + length out.old.items)).1) }
-    ensures fits { OnOk result (FitsAll items.now (places_in pool.now) (base + length out.old.items)) }
-    ensures refused { IfErr result (Refuses (FitsAll items.now (places_in pool.now) (base + length out.old.items))) }
+    ensures words { OnOk result (out.new.items ≡ out.old.items
+        ++ (lay_all (map laid items.now) (places_in pool.now) (base + length out.old.items)).0) }
+    ensures items { OnOk result
+        (stack.new.items ≡ stack.old.items
+        ++ (lay_all (map laid items.now) (places_in pool.now) (base + length out.old.items)).1) }
+    ensures fits { OnOk result
+        (FitsAll items.now (places_in pool.now) (base + length out.old.items)) }
+    ensures refused { IfErr result
+        (Refuses (FitsAll items.now (places_in pool.now) (base + length out.old.items))) }
 {
     for item in items {
         let word = lay(item, pool, base, out, stack)?;
@@ -181,10 +206,18 @@ fn lay_values(
     stack: &mut Vec<u32>,
 ) -> Result<(), ResbError>
     requires { base + length out.old.items ≤ 1048570 }
-    ensures words { OnOk result (out.new.items ≡ out.old.items ++ (lay_all (map laid (values_in entries.now)) (places_in pool.now) (base + length out.old.items)).0) }
-    ensures items { OnOk result (stack.new.items ≡ stack.old.items ++ (lay_all (map laid (values_in entries.now)) (places_in pool.now) (base + length out.old.items)).1) }
-    ensures fits { OnOk result (FitsAll (values_in entries.now) (places_in pool.now) (base + length out.old.items)) }
-    ensures refused { IfErr result (Refuses (FitsAll (values_in entries.now) (places_in pool.now) (base + length out.old.items))) }
+    ensures words { OnOk result (out.new.items ≡ out.old.items
+        ++ (lay_all (map laid (values_in entries.now)) (places_in pool.now)
+        (base + length out.old.items)).0) }
+    ensures items { OnOk result
+        (stack.new.items ≡ stack.old.items
+        ++ (lay_all (map laid (values_in entries.now)) (places_in pool.now)
+        (base + length out.old.items)).1) }
+    ensures fits { OnOk result
+        (FitsAll (values_in entries.now) (places_in pool.now) (base + length out.old.items)) }
+    ensures refused { IfErr result
+        (Refuses (FitsAll (values_in entries.now) (places_in pool.now)
+        (base + length out.old.items))) }
 {
     for (_, value) in entries {
         let word = lay(value, pool, base, out, stack)?;
@@ -203,11 +236,16 @@ fn lay_array(
     stack: &mut Vec<u32>,
 ) -> Result<u32, ResbError>
     requires { base + length out.old.items ≤ 1048570 }
-    ensures words { OnOk result (out.new.items ≡ out.old.items ++ (laid (array_of items.now) (places_in pool.now) (base + length out.old.items)).0) }
-    ensures item { IfOk result (λ v. v ≡ (laid (array_of items.now) (places_in pool.now) (base + length out.old.items)).1) }
+    ensures words { OnOk result (out.new.items ≡ out.old.items
+        ++ (laid (array_of items.now) (places_in pool.now) (base + length out.old.items)).0) }
+    ensures item { IfOk result
+        (λ v. v ≡ (laid (array_of items.now) (places_in pool.now)
+        (base + length out.old.items)).1) }
     ensures stack { OnOk result (stack.new.items ≡ stack.old.items) }
-    ensures fits { OnOk result (Fits (array_of items.now) (places_in pool.now) (base + length out.old.items)) }
-    ensures refused { IfErr result (Refuses (Fits (array_of items.now) (places_in pool.now) (base + length out.old.items))) }
+    ensures fits { OnOk result
+        (Fits (array_of items.now) (places_in pool.now) (base + length out.old.items)) }
+    ensures refused { IfErr result
+        (Refuses (Fits (array_of items.now) (places_in pool.now) (base + length out.old.items))) }
 {
     let count = items.len();
     if count == 0 {
@@ -234,11 +272,16 @@ fn lay_table(
     stack: &mut Vec<u32>,
 ) -> Result<u32, ResbError>
     requires { base + length out.old.items ≤ 1048570 }
-    ensures words { OnOk result (out.new.items ≡ out.old.items ++ (laid (table_of entries.now) (places_in pool.now) (base + length out.old.items)).0) }
-    ensures item { IfOk result (λ v. v ≡ (laid (table_of entries.now) (places_in pool.now) (base + length out.old.items)).1) }
+    ensures words { OnOk result (out.new.items ≡ out.old.items
+        ++ (laid (table_of entries.now) (places_in pool.now) (base + length out.old.items)).0) }
+    ensures item { IfOk result
+        (λ v. v ≡ (laid (table_of entries.now) (places_in pool.now)
+        (base + length out.old.items)).1) }
     ensures stack { OnOk result (stack.new.items ≡ stack.old.items) }
-    ensures fits { OnOk result (Fits (table_of entries.now) (places_in pool.now) (base + length out.old.items)) }
-    ensures refused { IfErr result (Refuses (Fits (table_of entries.now) (places_in pool.now) (base + length out.old.items))) }
+    ensures fits { OnOk result
+        (Fits (table_of entries.now) (places_in pool.now) (base + length out.old.items)) }
+    ensures refused { IfErr result
+        (Refuses (Fits (table_of entries.now) (places_in pool.now) (base + length out.old.items))) }
 {
     let count = entries.len();
     if count == 0 {
@@ -269,11 +312,14 @@ pub fn lay(
     stack: &mut Vec<u32>,
 ) -> Result<u32, ResbError>
     requires { base + length out.old.items ≤ 1048570 }
-    ensures words { OnOk result (out.new.items ≡ out.old.items ++ (laid tree.now (places_in pool.now) (base + length out.old.items)).0) }
-    ensures item { IfOk result (λ v. v ≡ (laid tree.now (places_in pool.now) (base + length out.old.items)).1) }
+    ensures words { OnOk result (out.new.items ≡ out.old.items
+        ++ (laid tree.now (places_in pool.now) (base + length out.old.items)).0) }
+    ensures item { IfOk result
+        (λ v. v ≡ (laid tree.now (places_in pool.now) (base + length out.old.items)).1) }
     ensures stack { OnOk result (stack.new.items ≡ stack.old.items) }
     ensures fits { OnOk result (Fits tree.now (places_in pool.now) (base + length out.old.items)) }
-    ensures refused { IfErr result (Refuses (Fits tree.now (places_in pool.now) (base + length out.old.items))) }
+    ensures refused { IfErr result
+        (Refuses (Fits tree.now (places_in pool.now) (base + length out.old.items))) }
 {
     match tree {
         Resource::Text(units) => lay_text(units.as_slice(), base, out),

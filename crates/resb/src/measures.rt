@@ -21,7 +21,9 @@ fn leaf(limit: usize, parts: usize) -> Option<(usize, usize)>
 /// The same of items one after the other.
 #[cycle(measure)]
 fn measure_items(items: &[Resource], levels: u8, limit: usize) -> Option<(usize, usize)>
-    ensures { result ≡ within levels limit (most_of (map depth items.now)) (weights items.now) (most_of (map most_entries items.now)) }
+    ensures { result
+        ≡ within levels limit (most_of (map depth items.now)) (weights items.now)
+        (most_of (map most_entries items.now)) }
 {
     let mut left = limit;
     let mut most = 0;
@@ -36,7 +38,9 @@ fn measure_items(items: &[Resource], levels: u8, limit: usize) -> Option<(usize,
 /// The same of keys and values one after the other.
 #[cycle(measure)]
 fn measure_entries(entries: &[(Key, Resource)], levels: u8, limit: usize) -> Option<(usize, usize)>
-    ensures { result ≡ within levels limit (most_of (map depth (values_in entries.now))) (entry_weights entries.now) (most_of (map most_entries (values_in entries.now))) }
+    ensures { result
+        ≡ within levels limit (most_of (map depth (values_in entries.now)))
+        (entry_weights entries.now) (most_of (map most_entries (values_in entries.now))) }
 {
     let mut left = limit;
     let mut most = 0;
@@ -56,7 +60,8 @@ fn measure_entries(entries: &[(Key, Resource)], levels: u8, limit: usize) -> Opt
 /// is no deeper than so many levels and the limit is enough.
 #[cycle(measure)]
 pub fn measure(tree: &Resource, levels: u8, limit: usize) -> Option<(usize, usize)>
-    ensures { result ≡ within levels limit (depth tree.now) (weight tree.now) (most_entries tree.now) }
+    ensures { result
+        ≡ within levels limit (depth tree.now) (weight tree.now) (most_entries tree.now) }
 {
     if levels == 0 || limit == 0 {
         return None;

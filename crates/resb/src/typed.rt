@@ -32,7 +32,8 @@ fn items_typed(items: &[Resource])
 #[cycle(typed)]
 #[tactic(auto, using(crate::proofs::TypeSizes::value_typed_more))]
 fn values_typed(entries: &[(Key, Resource)])
-    ensures { all_true (map has_typed_parts (map (λ (e : List ℕ × Resource). e.1) entries.now)) ≡ true }
+    ensures { all_true (map has_typed_parts (map (λ (e : List ℕ × Resource). e.1) entries.now))
+        ≡ true }
 {
     for (_, value) in entries {
         parts_typed(value);

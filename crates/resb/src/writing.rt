@@ -65,7 +65,8 @@ fn joined(
     keys: &[u32],
     resources: &[u32],
 ) -> Result<Vec<u32>, AllocError>
-    ensures { IfOk result (λ words. words.items ≡ header ++ (front.now ++ keys.now ++ resources.now)) }
+    ensures { IfOk result
+        (λ words. words.items ≡ header ++ (front.now ++ keys.now ++ resources.now)) }
 {
     let mut words = Vec::from_slice(alloc, HEADER.as_slice())?;
     words.extend_from_slice(front)?;
