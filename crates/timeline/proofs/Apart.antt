@@ -1,5 +1,5 @@
 -- An entry that lies days from the one before it keeps the laws, if its offsets, its part and the end of the table allow it.
-use Rattle.std.proofs.Common.{◌≡◌, ℕ, zero, suc, ◌+◌, ◌<◌, nat_lt, nat_le, Bool, List, All, get_or, length, slice_get, Option, Some, None, IfSome, option_map, add-one, refl, sym, subst, ◌∙◌, ℤ, pos, ◌+ℤ◌, ◌<ℤ◌, arith}
+use Rattle.std.proofs.Common.{◌≡◌, ℕ, zero, suc, ◌+◌, ◌<◌, nat_lt, nat_le, List, All, get_or, length, slice_get, Option, Some, None, IfSome, option_map, add-one, refl, sym, subst, ◌∙◌, ℤ, pos, ◌+ℤ◌, ◌<ℤ◌, arith}
 use Rattle.std.proofs.lemmas.Int.{ints, clamps}
 use Rattle.std.proofs.lemmas.Option.{slice_get_within}
 use Rattle.timeline.specs.declared.offset.Offset.{Offset}
@@ -46,16 +46,16 @@ abbrev Rising : checked.Walls → checked.Walls → Type 0
 Rising p q = p.since <ℤ q.since
 
 -- the nth entry keeps all laws, if its second lies in its part and far from the one before it and from the limit
-pub entry_shown : (z : PlainZone) (limit : Option ℤ) (n : ℕ) (previous second : ℤ) (early late : Bool) → early ≡ nat_lt n z.early → late ≡ nat_le (length z.table) (n + z.late)
-    → IsSecondBefore z.table n previous → IsSecondAt z.table n second → InPart early late second → IsApart previous second → AreSmall z → IfSome limit (λ l. IsApart second l)
+pub entry_shown : (z : PlainZone) (limit : Option ℤ) (n : ℕ) (previous second : ℤ) → IsSecondBefore z.table n previous → IsSecondAt z.table n second
+    → InPart (nat_lt n z.early) (nat_le (length z.table) (n + z.late)) second → IsApart previous second → AreSmall z → IfSome limit (λ l. IsApart second l)
     → (f : ZoneFault) → KeepsAt z.initial z.table z.early z.late limit f n
-entry_shown z limit n previous second early late is_early is_late before read part far small ends =
+entry_shown z limit n previous second before read part far small ends =
     all_kept (λ f. KeepsAt z.initial z.table z.early z.late limit f n)
     (λ e get.
     let same = since_read z.table n second e read get in
     record {
-      in_early = λ t. let h = part.in_early (is_early ∙ t) in omega (arith, ints, same, h);
-      in_late = λ t. let h = part.in_late (is_late ∙ t) in omega (arith, ints, same, h);
+      in_early = λ t. let h = part.in_early t in omega (arith, ints, same, h);
+      in_late = λ t. let h = part.in_late t in omega (arith, ints, same, h);
     })
     (λ e get. pair_at Rising z.initial z.table n e (λ m a next first. let apart = far_from e get m a next first in omega (arith, ints, apart)))
     (λ e get. small.table n e get)

@@ -38,6 +38,10 @@ tells_more K n a b h k =
     (λ f all. (λ m less. all m (omega arith), all n (omega arith)))
     (tells-both (λ f. (m : ℕ) → m < n → K f m) (λ f. K f n) a b h k)
 
+pub tells_kept : (K : ZoneFault → ℕ → Type 0) (n : ℕ) (a : Told) → TellsLeast (λ f. (m : ℕ) → m < n → K f m) a → ((f : ZoneFault) → K f n) → TellsLeast (λ f. (m : ℕ) → m < n + 1 → K f m) a
+tells_kept K n (Ok x) h k = tells_more K n (Ok x) (Ok tt) h k
+tells_kept K n (Err f) h k = tells_more K n (Err f) (Ok tt) h k
+
 -- ---- by cases
 
 pub all_kept : (K : ZoneFault → Type 0) → K Parts → K Order → K Size → K Near → K Walls → K Seam → K Before → K Year → (f : ZoneFault) → K f

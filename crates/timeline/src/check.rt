@@ -8,7 +8,6 @@ ghost use Rattle.timeline.specs.Timeline.{offset_of};
 ghost use Rattle.timeline.specs.Inside.KeptRules.{kept_rule};
 ghost use Rattle.timeline.specs.Laws.{IsSmall, step};
 ghost use Rattle.timeline.specs.declared.offset.Transition.{Transition as Entry};
-ghost use Rattle.timeline.specs.declared.fault.ZoneFault.{ZoneFault as Fault};
 ghost use Rattle.timeline.specs.Fault.{Keeps};
 ghost use Rattle.timeline.specs.Inside.LeastFaults.{TellsLeast};
 ghost use Rattle.timeline.specs.Inside.CheckSteps.{walls, AreNear, AreWalled, EndBefore, BeginFrom, LieIn, InPart, IsSecondAt, IsSecondBefore, EntryKeeps, KeepsAt, TableKeeps, table_before, table_walls, walls_before, PairKeeps, YearKeeps, YearsKeep, RuleKeeps, SizeKept};
@@ -96,9 +95,6 @@ fn both_lie_in(low: i64, high: i64, first: Walls, second: Walls) -> bool
 fn is_in_part(early: bool, late: bool, since: i64) -> bool
     ensures { IsTrue result ↔ InPart early late since }
 {
-    if !early && !late {
-        return true;
-    }
     (!early || since < -2_147_483_648) && (!late || since > 2_147_483_647)
 }
 
@@ -247,30 +243,6 @@ fn fault_at(
     entry_fault(early, late, before, walls, after, limit)
 }
 
-/// The same, at once where it was shown that the entry breaks none.
-fn fault_unless(
-    shown: bool,
-    zone: &ZoneData,
-    limit: Option<i64>,
-    n: usize,
-    previous: i64,
-    second: i64,
-) -> Result<(), ZoneFault>
-    requires shown { IsTrue shown → (f : Fault)
-        → KeepsAt zone.now.initial zone.now.table zone.now.early zone.now.late limit f n }
-    requires within { n < length zone.now.table }
-    requires previous { IsSecondBefore zone.now.table n previous }
-    requires second { IsSecondAt zone.now.table n second }
-    ensures { TellsLeast
-        (λ f. KeepsAt zone.now.initial zone.now.table zone.now.early zone.now.late limit f n)
-        result }
-{
-    if shown {
-        return Ok(());
-    }
-    fault_at(zone, limit, n, previous, second)
-}
-
 /// The least law that a table breaks, with the second that it is to end before. Takes a step for each entry.
 fn table_fault<L: Ledger>(
     zone: &ZoneData,
@@ -284,14 +256,14 @@ fn table_fault<L: Ledger>(
     let mut least = Ok(());
     // No entry stands before the first one, so it is taken to lie far behind it.
     let mut previous = i64::MIN;
-    let (len, early, late) = (zone.len(), zone.early(), zone.late());
+    let early = zone.early();
+    let middle = apart::middle_len(zone.len(), early, zone.late());
     let end = apart::shown_end(zone, limit);
-    for n in 0..len {
+    for n in 0..zone.len() {
         let second = zone.second_at(n, steps);
-        let in_late = is_late(len, n, late);
-        let shown = apart::shows_laws(n < early, in_late, previous, second, end);
-        let fault = fault_unless(shown, zone, limit, n, previous, second);
-        least = least_of(least, fault);
+        if !apart::shows_laws(zone, early, middle, n, previous, second, end) {
+            least = least_of(least, fault_at(zone, limit, n, previous, second));
+        }
         previous = second;
     }
     least

@@ -1,41 +1,92 @@
 //! Entries that lie days apart, as nearly all do: their seconds alone show that they keep the laws.
-ghost use Rattle.std.specs.Prelude.{◌↔◌, IsTrue, IfSome, ℤ, negsuc, ◌<ℤ◌, ◌≤ℤ◌};
+ghost use Rattle.std.specs.Prelude.{◌≡◌, ◌+◌, ◌-◌, ◌^◌, ◌<◌, ◌≤◌, ◌↔◌, IsTrue, IfSome, nat_lt, nat_le, length, ℤ, pos, negsuc, ◌+ℤ◌, ◌<ℤ◌, ◌≤ℤ◌};
 ghost use Rattle.timeline.specs.Inside.CheckSteps.{InPart};
 ghost use Rattle.timeline.specs.Inside.Apart.{IsApart, AreSmall};
 
-use super::is_in_part;
+use super::{is_in_part, is_late};
 use crate::data::ZoneData;
 
-/// Whether a second is two days or more before another.
-fn is_apart(first: i64, second: i64) -> bool
-    ensures { IsTrue result ↔ IsApart first second }
+/// Two days before a second; of one of the first two days of all, a second of the last two days.
+fn two_days_before(second: i64) -> i64
+    ensures { result <ℤ pos 9223372036854603008 → second ≡ result +ℤ pos 172800 }
 {
-    match second.checked_sub(172_800) {
-        Some(limit) => first <= limit,
-        None => false,
-    }
+    second.wrapping_sub(172_800)
 }
 
-/// The second from which on seconds alone show nothing of an entry: each before it is two days or more before the second
-/// that the table is to end before, if there is one. None is before it where an offset is a day or more.
+/// An entry whose second less two days is below this one lies two days or more before the second that the table is to end
+/// before, if there is one. Where an offset is a day or more, none is below it.
 pub fn shown_end(zone: &ZoneData, limit: Option<i64>) -> i64
-    ensures { (s : ℤ) → negsuc 9223372036854775807 ≤ℤ s → s <ℤ result
+    ensures wraps { result ≤ℤ pos 9223372036854603008 }
+    ensures shown { (s : ℤ) → IsApart (negsuc 9223372036854775807) s → s <ℤ (result +ℤ pos 172800)
         → AreSmall zone.now × IfSome limit (λ l. IsApart s l) }
 {
     if !zone.has_small_offsets() {
         return i64::MIN;
     }
     match limit {
-        Some(limit) => limit.checked_sub(172_799).unwrap_or(i64::MIN),
-        None => i64::MAX,
+        Some(limit) => limit.checked_sub(345_599).unwrap_or(i64::MIN),
+        None => i64::MAX - 172_799,
     }
 }
 
-/// Whether an entry shows by its second that it lies in its part, two days or more after the one before it, and before an
-/// end. One that does not may keep the laws too.
-pub fn shows_laws(early: bool, late: bool, previous: i64, second: i64, end: i64) -> bool
-    ensures { IsTrue result
-        → InPart early late second × (IsApart previous second × (second <ℤ end)) }
+fn lies_between(low: i64, second: i64, end: i64) -> bool
+    ensures { IsTrue result ↔ ((low ≤ℤ second) × (second <ℤ end)) }
 {
-    is_in_part(early, late, second) && is_apart(previous, second) && second < end
+    second < end && low <= second
+}
+
+/// How many entries of a table are neither among the first ones nor among the last ones.
+pub fn middle_len(len: usize, early: usize, late: usize) -> usize
+    ensures value { result ≡ len - early - late }
+    ensures fits { early + result < 2 ^ 64 }
+{
+    len.saturating_sub(early).saturating_sub(late)
+}
+
+/// Whether the nth entry of a table is one of so many that follow the first ones.
+fn is_in_middle(early: usize, middle: usize, n: usize) -> bool
+    requires { early + middle < 2 ^ 64 }
+    ensures { IsTrue result → (early ≤ n) × (n < early + middle) }
+{
+    // One comparison: where n is less than `early`, the difference wraps to a number past all tables.
+    n.wrapping_sub(early) < middle
+}
+
+/// Whether the nth entry of a table, whose second this is, lies in its part.
+fn shows_part(zone: &ZoneData, early: usize, middle: usize, n: usize, second: i64) -> bool
+    requires within { n < length zone.now.table }
+    requires early { early ≡ zone.now.early }
+    requires middle { middle ≡ length zone.now.table - zone.now.early - zone.now.late }
+    requires fits { early + middle < 2 ^ 64 }
+    ensures { IsTrue result
+        → InPart (nat_lt n zone.now.early) (nat_le (length zone.now.table) (n + zone.now.late)) second }
+{
+    if is_in_middle(early, middle, n) {
+        return true;
+    }
+    is_in_part(n < early, is_late(zone.len(), n, zone.late()), second)
+}
+
+/// Whether the nth entry of a table shows by its second that it lies in its part, two days or more after the one before it,
+/// and before an end. One that does not may keep the laws too.
+pub fn shows_laws(
+    zone: &ZoneData,
+    early: usize,
+    middle: usize,
+    n: usize,
+    previous: i64,
+    second: i64,
+    end: i64,
+) -> bool
+    requires within { n < length zone.now.table }
+    requires early { early ≡ zone.now.early }
+    requires middle { middle ≡ length zone.now.table - zone.now.early - zone.now.late }
+    requires fits { early + middle < 2 ^ 64 }
+    requires wraps { end ≤ℤ pos 9223372036854603008 }
+    ensures { IsTrue result
+        → InPart (nat_lt n zone.now.early) (nat_le (length zone.now.table) (n + zone.now.late)) second
+        × (IsApart previous second × (second <ℤ (end +ℤ pos 172800))) }
+{
+    lies_between(previous, two_days_before(second), end)
+        && shows_part(zone, early, middle, n, second)
 }
