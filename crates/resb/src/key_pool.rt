@@ -10,7 +10,7 @@ use sqlite_items::Items;
 use std::alloc::{AllocError, Global};
 use std::collections::BTreeMap;
 
-/// Whether a key is the last of those met, which are then no more with it.
+/// Whether a key is the last of those met.
 fn is_last(met: &[&[u8]], key: &[u8]) -> bool
     ensures { result ≡ true → stands_in key.now (bare met.now) ≡ true }
 {
@@ -20,7 +20,7 @@ fn is_last(met: &[&[u8]], key: &[u8]) -> bool
     }
 }
 
-/// Appends a key, but not to the same key.
+/// Appends a key, except behind the same key: the pool of those met is the same with it.
 fn meet<'a>(key: &'a [u8], met: &mut Vec<&'a [u8]>) -> Result<(), AllocError>
     ensures { OnOk result (pooled [] (bare met.new.items)
         ≡ pooled [] (bare met.old.items ++ key.now ∷ [])) }

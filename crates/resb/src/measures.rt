@@ -8,7 +8,7 @@ use resb_tree::{Key, Resource, are_distinct};
 use sqlite_items::Items;
 use std::alloc::{AllocError, Global};
 
-/// What a resource without others in it leaves of a limit, with no table's entries.
+/// What so many units, bytes or integers leave of a limit, and that no table has entries.
 fn leaf(limit: usize, parts: usize) -> Option<(usize, usize)>
     ensures { result ≡ within 0 limit 0 parts 0 }
 {
@@ -18,7 +18,7 @@ fn leaf(limit: usize, parts: usize) -> Option<(usize, usize)>
     Some((limit - parts, 0))
 }
 
-/// The same of items one after the other.
+/// Measures items one after the other, as `measure` does a tree.
 #[cycle(measure)]
 fn measure_items(items: &[Resource], levels: u8, limit: usize) -> Option<(usize, usize)>
     ensures { result
@@ -35,7 +35,7 @@ fn measure_items(items: &[Resource], levels: u8, limit: usize) -> Option<(usize,
     Some((left, most))
 }
 
-/// The same of keys and values one after the other.
+/// Measures keys and values one after the other, as `measure` does a tree.
 #[cycle(measure)]
 fn measure_entries(entries: &[(Key, Resource)], levels: u8, limit: usize) -> Option<(usize, usize)>
     ensures { result
