@@ -100,9 +100,6 @@ months_in_leap y k e h =
 
 -- ---- the four kinds of code
 
-pub code_weekday-is : (code : ℤ) → code_weekday code ≡ pos ((unsigned_abs code % 7 + 5) % 7)
-code_weekday-is code = ap pos (omega arith)
-
 at_kind : (r : DateRule) (k : ℕ) (place : ℤ) → rule_date r (example_year k) ≡ year_start (example_year k) +ℤ place → place ≡ place_in_kind r k
 at_kind r k place e = omega (arith, ints, e, place_in_kind-is r k)
 

@@ -1,12 +1,12 @@
 //! The dates of yearly rules, and the places of the days that they name.
 ghost use Rattle.std.specs.Ordering.{int_eq};
-ghost use Rattle.std.specs.Prelude.{◌≡◌, ◌&&◌, ◌+◌, ◌<◌, ◌≤◌, if◌then◌else◌, ℤ, pos, negsuc, ◌+ℤ◌, ◌≤ℤ◌, Some, None, unsigned_abs};
+ghost use Rattle.std.specs.Prelude.{◌≡◌, suc, ◌&&◌, ◌+◌, ◌<◌, ◌≤◌, if◌then◌else◌, ℤ, pos, negsuc, ◌+ℤ◌, ◌≤ℤ◌, Some, None, unsigned_abs};
 ghost use Rattle.civil.specs.Calendar.{year_start, year_kind, days_of_months, weekday_of};
 ghost use Rattle.timeline.specs.Zone.{DateRule, fits_i32, plain_rule};
-ghost use Rattle.timeline.specs.Rule.{first_on, last_on, start_is_first};
+ghost use Rattle.timeline.specs.Rule.{code_weekday, first_on, last_on, start_is_first};
 ghost use Rattle.timeline.specs.Kinds.{place_in_kind};
 ghost use Rattle.timeline.specs.Inside.KeptRules.{places_of, kept_rule};
-ghost use Rattle.timeline.specs.DateView.{mode_number, plain_date, raw_of};
+ghost use Rattle.timeline.specs.DateView.{mode_number, day_code, plain_date, raw_of};
 ghost use Rattle.timeline.specs.Equal.{same_date, same_rule};
 ghost use Rattle.timeline.specs.Ranges.{IsDateInRange, AreDatesInRange};
 
@@ -14,12 +14,51 @@ use crate::rule::{KindDate, TimeMode, YearRule};
 use civil::days_before_month;
 use std::marker::Model;
 
-/// One of the two dates of a rule: its month, day, weekday code and seconds, and what these are counted by.
+/// Which day of its month the day of a rule's date names. A weekday counts from Sunday, 0 to 6.
+#[derive(Clone, Copy)]
+pub enum DayRule {
+    /// The day itself, 1 to 31.
+    InMonth,
+    /// That weekday, the first to the fifth of the month by the day.
+    Nth(u32),
+    /// That weekday: the first one from the day on, or the last one up to it where the day is below 0.
+    Beside(u32),
+}
+
+impl DayRule {
+    /// The rule that a weekday code stands for: 0 for the day itself, 1 to 7 for the weekdays that the day counts, Sunday
+    /// first, and -1 to -7 for those that lie beside it.
+    pub fn of_code(code: i32) -> DayRule
+        ensures { day_code result ≡ code }
+    {
+        if code == 0 {
+            DayRule::InMonth
+        } else if code > 0 {
+            DayRule::Nth(code.unsigned_abs() - 1)
+        } else {
+            DayRule::Beside(code.unsigned_abs() - 1)
+        }
+    }
+
+    /// Whether two rules have the same code.
+    fn is_same(self, other: DayRule) -> bool
+        ensures { result ≡ int_eq (day_code self) (day_code other) }
+    {
+        match (self, other) {
+            (DayRule::InMonth, DayRule::InMonth) => true,
+            (DayRule::Nth(a), DayRule::Nth(b)) => a == b,
+            (DayRule::Beside(a), DayRule::Beside(b)) => a == b,
+            _ => false,
+        }
+    }
+}
+
+/// One of the two dates of a rule: its month, its day and which day that names, its seconds, and what these are counted by.
 #[derive(Clone, Copy)]
 pub struct RuleDate {
     month: u32,
     day: i32,
-    code: i32,
+    rule: DayRule,
     seconds: u32,
     mode: TimeMode,
 }
@@ -118,26 +157,38 @@ fn last_to(weekday: u32, to: u32, kind: u8) -> i32
     to as i32 - ((weekday_at(to, kind) + 7 - weekday) % 7) as i32
 }
 
+/// A weekday that counts from Sunday, as one that counts from Monday.
+fn from_monday(weekday: u32) -> u32
+    ensures counted { pos result ≡ code_weekday (pos (suc weekday)) }
+    ensures beside { pos result ≡ code_weekday (negsuc weekday) }
+    ensures few { result < 7 }
+{
+    (weekday % 7 + 6) % 7
+}
+
 /// The place of a date in a year of this kind.
-fn place(month: u32, day: i32, code: i32, kind: u8) -> i16
+fn place(month: u32, day: i32, rule: DayRule, kind: u8) -> i16
     requires month { month < 12 }
     requires some_day { 1 ≤ unsigned_abs day }
     requires last_day { unsigned_abs day ≤ 31 }
     requires kind { kind < 14 }
-    ensures { (r : DateRule) → r.month ≡ month → r.day ≡ day → r.code ≡ code
+    ensures { (r : DateRule) → r.month ≡ month → r.day ≡ day → r.code ≡ day_code rule
         → result ≡ place_in_kind r kind }
 {
     let first = month_place(month, kind);
     let anchor = first + day.unsigned_abs() - 1;
-    let weekday = (code.unsigned_abs() % 7 + 5) % 7;
-    if code == 0 {
-        anchor as i16
-    } else if code > 0 {
-        (first_from(weekday, first, kind) as i32 + 7 * (day - 1)) as i16
-    } else if day > 0 {
-        first_from(weekday, anchor, kind) as i16
-    } else {
-        last_to(weekday, anchor, kind) as i16
+    match rule {
+        DayRule::InMonth => anchor as i16,
+        DayRule::Nth(weekday) => {
+            (first_from(from_monday(weekday), first, kind) as i32 + 7 * (day - 1)) as i16
+        }
+        DayRule::Beside(weekday) => {
+            if day > 0 {
+                first_from(from_monday(weekday), anchor, kind) as i16
+            } else {
+                last_to(from_monday(weekday), anchor, kind) as i16
+            }
+        }
     }
 }
 
@@ -148,18 +199,18 @@ fn places(date: RuleDate) -> [i16; 14]
 {
     let mut places = [0; 14];
     for kind in 0..14 {
-        places[kind] = place(date.month, date.day, date.code, kind as u8);
+        places[kind] = place(date.month, date.day, date.rule, kind as u8);
     }
     places
 }
 
 impl RuleDate {
-    /// A date of these four numbers, with what its seconds are counted by.
-    pub fn new(month: u32, day: i32, code: i32, seconds: u32, mode: TimeMode) -> RuleDate
+    /// A date of these three numbers, with which day its day names, and what its seconds are counted by.
+    pub fn new(month: u32, day: i32, rule: DayRule, seconds: u32, mode: TimeMode) -> RuleDate
         ensures { plain_date result ≡ record {
           month = month;
           day = day;
-          code = code;
+          code = day_code rule;
           seconds = seconds;
           mode = mode_number mode;
         } }
@@ -167,7 +218,7 @@ impl RuleDate {
         RuleDate {
             month,
             day,
-            code,
+            rule,
             seconds,
             mode,
         }
@@ -179,7 +230,7 @@ impl RuleDate {
     {
         self.month == other.month
             && self.day == other.day
-            && self.code == other.code
+            && self.rule.is_same(other.rule)
             && self.seconds == other.seconds
             && self.mode.is_same(other.mode)
     }
@@ -297,7 +348,8 @@ mod tests {
         ];
         for (year, month, day, code, month_of_year, day_of_month) in rows {
             assert!(rt; month < 12 && day.unsigned_abs() >= 1 && day.unsigned_abs() <= 31);
-            let number = days_before_year(year) + place(month, day, code, year_kind(year)) as i64;
+            let rule = DayRule::of_code(code);
+            let number = days_before_year(year) + place(month, day, rule, year_kind(year)) as i64;
             let date = NaiveDate::from_ymd_opt(year, month_of_year, day_of_month);
             assert_eq!(rt;
                 Some(number),

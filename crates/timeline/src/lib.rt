@@ -14,7 +14,7 @@ mod seconds;
 mod transitions;
 
 pub use data::ZoneData;
-pub use dates::{PlacedDates, RuleDate, RuleDates, ZoneRule};
+pub use dates::{DayRule, PlacedDates, RuleDate, RuleDates, ZoneRule};
 pub use fault::ZoneFault;
 pub use offset::{Offset, PossibleOffset, Transition, UtcOffset};
 pub use rule::TimeMode;

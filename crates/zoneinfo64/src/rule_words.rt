@@ -5,7 +5,7 @@ ghost use Rattle.timeline.specs.Ranges.{IsDateInRange, AreDatesInRange};
 ghost use Rattle.zoneinfo64.specs.RuleFields.{as_i32, longest_month, between, is_rule_day, is_date, date_from, date_rule, raw_rule};
 ghost use Rattle.zoneinfo64.specs.Inside.DateWords.{by_dates};
 
-use timeline::{RuleDate, RuleDates, TimeMode};
+use timeline::{DayRule, RuleDate, RuleDates, TimeMode};
 
 /// 32 bits with their sign.
 fn signed(word: u32) -> i32
@@ -96,7 +96,7 @@ fn date_from(month: u32, day: u32, code: u32, seconds: u32, mode: u32) -> RuleDa
     RuleDate::new(
         size(month),
         signed(day),
-        signed(code),
+        DayRule::of_code(signed(code)),
         size(seconds),
         mode_of(mode),
     )

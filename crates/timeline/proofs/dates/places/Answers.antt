@@ -13,9 +13,8 @@ loop-kind-preserved c = record {
       (λ k h. let other : k ≢ c.loop-kind.kind = omega arith in rw get_or-set_other (c.loop-kind.invariant.done k h))
       (let inside : c.loop-kind.kind < length c.loop-kind.places = omega (arith, c.loop-kind.invariant.len) in
       let day : FitsSigned w32 c.args.date.day = search rules in
-      let code : FitsSigned w32 c.args.date.code = search rules in
       let narrow : FitsSigned w16 c.place.result = search rules in
-      let value = c.place.ensures (plain_date c.args.date) refl (sym (to_z-of_z day)) (sym (to_z-of_z code)) in
+      let value = c.place.ensures (plain_date c.args.date) refl (sym (to_z-of_z day)) refl in
       get_or-set_same c.loop-kind.places c.loop-kind.kind (to_z w16 (of_z w16 c.place.result)) (pos 0) inside ∙ to_z-of_z narrow ∙ value);
 }
 
