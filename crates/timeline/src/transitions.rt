@@ -160,7 +160,8 @@ fn next_in_rule(
 ) -> Option<Transition>
     requires { year <ℤ pos 2147483647 }
     ensures { IsLawful zone.now → IsNearestYear year second → StartsInside zone.now.rule
-        → told.Rule before first last ≡ entries_in zone.now.rule year → AnswersNext zone.now second change result }
+        → told.Rule before first last ≡ entries_in zone.now.rule year
+        → AnswersNext zone.now second change result }
 {
     if !is_idle(change, &before, &first) {
         if second < first.since {
@@ -258,7 +259,8 @@ fn prev_in_rule<L: Ledger>(
 ) -> Option<Transition>
     requires { negsuc 2147483647 <ℤ year }
     ensures { IsLawful zone.now → IsNearestYear year second → StartsInside zone.now.rule
-        → told.Rule before first last ≡ entries_in zone.now.rule year → AnswersPrev zone.now second exact change result }
+        → told.Rule before first last ≡ entries_in zone.now.rule year
+        → AnswersPrev zone.now second exact change result }
 {
     if !is_idle(change, &before, &first) {
         if is_up_to(exact, second, last.since) {

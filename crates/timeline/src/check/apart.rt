@@ -59,7 +59,8 @@ fn shows_part(zone: &ZoneData, early: usize, middle: usize, n: usize, second: i6
     requires middle { middle ≡ length zone.now.table - zone.now.early - zone.now.late }
     requires fits { early + middle < 2 ^ 64 }
     ensures { IsTrue result
-        → InPart (nat_lt n zone.now.early) (nat_le (length zone.now.table) (n + zone.now.late)) second }
+        → InPart (nat_lt n zone.now.early)
+        (nat_le (length zone.now.table) (n + zone.now.late)) second }
 {
     if is_in_middle(early, middle, n) {
         return true;
@@ -84,7 +85,8 @@ pub fn shows_laws(
     requires fits { early + middle < 2 ^ 64 }
     requires wraps { end ≤ℤ pos 9223372036854603008 }
     ensures { IsTrue result
-        → InPart (nat_lt n zone.now.early) (nat_le (length zone.now.table) (n + zone.now.late)) second
+        → InPart (nat_lt n zone.now.early)
+        (nat_le (length zone.now.table) (n + zone.now.late)) second
         × (IsApart previous second × (second <ℤ (end +ℤ pos 172800))) }
 {
     lies_between(previous, two_days_before(second), end)
