@@ -7,3 +7,6 @@ pub mod KeySets
 pub mod FirstEntries
 pub mod Limits
 pub mod Within
+pub mod Checks
+pub mod KeyPlaces
+pub mod Parts

@@ -82,7 +82,7 @@ array_cases one under h false (Some n) items limit =
     bind_same (spent limit 1) _ _ (λ left. rw (all_limited one under h (items n) left) refl) ∙ array_there limit (all_of one (items n))
 
 -- an array of either form
-abbrev array_by : ArrayForm → (ℕ → Option Resource) → Body → ℕ → Option Resource
+abbrev pub array_by : ArrayForm → (ℕ → Option Resource) → Body → ℕ → Option Resource
 array_by form one b v = cond (no_items form v) (Some (r.Array [])) (array_count form b v >>= λ n. all_of one (run (item_in form b) (v + 1) n) >>= λ xs. Some (r.Array xs))
 
 array_is : (form : ArrayForm) (one : ℕ → Option Resource) (under : ℕ → ℕ → Option (Resource × ℕ)) → ((item limit : ℕ) → under item limit ≡ limited_by weight limit (one item)) → (b : Body) (v limit : ℕ)
@@ -90,11 +90,11 @@ array_is : (form : ArrayForm) (one : ℕ → Option Resource) (under : ℕ → �
 unfolding array_within
 array_is form one under h b v limit = array_cases one under h (no_items form v) (array_count form b v) (λ n. run (item_in form b) (v + 1) n) limit
 
-long_array : (one : ℕ → Option Resource) (b : Body) (v : ℕ) → array_by array.Long one b v ≡ array_at one b v
+pub long_array : (one : ℕ → Option Resource) (b : Body) (v : ℕ) → array_by array.Long one b v ≡ array_at one b v
 unfolding array_at
 long_array one b v = refl
 
-short_array : (one : ℕ → Option Resource) (b : Body) (v : ℕ) → array_by array.Short one b v ≡ short_array_at one b v
+pub short_array : (one : ℕ → Option Resource) (b : Body) (v : ℕ) → array_by array.Short one b v ≡ short_array_at one b v
 unfolding short_array_at
 short_array one b v = refl
 
@@ -181,7 +181,7 @@ table_cases b one under h false (Some n) places limit =
     bind_same (spent limit 1) _ _ (λ left. rw (entries_limited (key_at b) (key_within b) one under (key_is b) h (places n) left) refl) ∙ table_there limit (entries_of (key_at b) one (places n))
 
 -- a table of each form
-abbrev table_by : TableForm → (ℕ → Option Resource) → Body → ℕ → Option Resource
+abbrev pub table_by : TableForm → (ℕ → Option Resource) → Body → ℕ → Option Resource
 table_by form one b v = cond (no_entries form v) (Some (r.Table [])) (table_count form b v >>= λ n. table_of one b (run (entry_in form b v n) 0 n))
 
 table_is : (form : TableForm) (one : ℕ → Option Resource) (under : ℕ → ℕ → Option (Resource × ℕ)) → ((item limit : ℕ) → under item limit ≡ limited_by weight limit (one item)) → (b : Body) (v limit : ℕ)
@@ -193,15 +193,15 @@ tested : {A B : Type 0} (test : Bool) (x : A) (f : A → Option B) → (cond tes
 tested true x f = refl
 tested false x f = refl
 
-narrow_table : (one : ℕ → Option Resource) (b : Body) (v : ℕ) → table_by table.Narrow one b v ≡ table16_at one b v
+pub narrow_table : (one : ℕ → Option Resource) (b : Body) (v : ℕ) → table_by table.Narrow one b v ≡ table16_at one b v
 unfolding table16_at
 narrow_table one b v = ap (λ t. cond (eqb v 0) (Some (r.Table [])) t) (tested _ (unit_in b.words (2 * v)) (λ n. table_of one b (run (entry_in table.Narrow b v n) 0 n)))
 
-wide_table : (one : ℕ → Option Resource) (b : Body) (v : ℕ) → table_by table.Wide one b v ≡ table32_at one b v
+pub wide_table : (one : ℕ → Option Resource) (b : Body) (v : ℕ) → table_by table.Wide one b v ≡ table32_at one b v
 unfolding table32_at
 wide_table one b v = ap (λ t. cond (eqb v 0) (Some (r.Table [])) t) (tested _ (slice_index b.words v) (λ n. table_of one b (run (entry_in table.Wide b v n) 0 n)))
 
-brief_table : (one : ℕ → Option Resource) (b : Body) (v : ℕ) → table_by table.Brief one b v ≡ short_table_at one b v
+pub brief_table : (one : ℕ → Option Resource) (b : Body) (v : ℕ) → table_by table.Brief one b v ≡ short_table_at one b v
 unfolding short_table_at
 brief_table one b v = refl
 

@@ -1,4 +1,4 @@
-ghost use Rattle.std.specs.Prelude.{◌≤◌, length};
+ghost use Rattle.std.specs.Prelude.{◌<◌, ◌≤◌, length};
 
 /// The words behind the header, and the ends that the index tells, in words from the root item on.
 #[derive(Clone, Copy)]
@@ -10,4 +10,5 @@ pub struct BodyWords<'a> {
     ghost keys: { keys_end ≤ area_end },
     ghost area: { area_end ≤ end },
     ghost within: { end ≤ length words.now },
+    ghost some: { 0 < end },
 }

@@ -18,7 +18,7 @@ const FEW: usize = 16;
 
 /// The place of the zero byte that ends the key at a place.
 #[tactic(auto, unfolding(crate::specs::Reading::key_stop))]
-fn key_stop(body: BodyWords<'_>, place: usize) -> Result<usize, ResbError>
+pub fn key_stop(body: BodyWords<'_>, place: usize) -> Result<usize, ResbError>
     ensures value { Gives (λ x. x) result
         (key_stop (byte_in body.entry.words.now) place (4 * body.entry.keys_end - place)) }
     ensures low { IfOk result (λ stop. place ≤ stop) }
@@ -78,7 +78,7 @@ fn few_distinct(entries: &[(Key, Resource)]) -> bool
 }
 
 /// The same, in the time of a sort.
-fn many_distinct(alloc: Global, entries: &[(Key, Resource)]) -> Result<bool, AllocError>
+pub fn many_distinct<T>(alloc: Global, entries: &[(Key, T)]) -> Result<bool, AllocError>
     ensures { IfOk result (λ answer. answer ≡ distinct (keys_in entries.now)) }
 {
     let mut later = BTreeSet::new(alloc);

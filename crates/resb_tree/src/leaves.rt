@@ -1,4 +1,4 @@
-ghost use Rattle.std.specs.Prelude.{◌≡◌, ℕ, ◌+◌, ◌-◌, ◌*◌, ◌<◌, ◌≤◌, length, slice_index, IfOk};
+ghost use Rattle.std.specs.Prelude.{◌≡◌, ℕ, ◌+◌, ◌-◌, ◌*◌, ◌<◌, ◌≤◌, length, slice_index, IfOk, IfSome};
 ghost use Rattle.resb_tree.specs.Tree.{counted, area_len, area_unit};
 ghost use Rattle.resb_tree.specs.Words.{run};
 ghost use Rattle.resb_tree.specs.Forms.{told};
@@ -93,52 +93,51 @@ pub fn bytes_of(
 
 /// The place of the first zero unit of the 16-bit area from `v` on.
 #[tactic(auto, unfolding(crate::specs::Reading::zero_from))]
-fn zero_unit(body: BodyWords<'_>, v: usize) -> Result<usize, ResbError>
-    ensures value { Gives (λ x. x) result
-        (zero_from (area_unit (told body.entry)) v (area_len (told body.entry) - v)) }
-    ensures low { IfOk result (λ stop. v ≤ stop) }
-    ensures high { IfOk result (λ stop. stop < area_len (told body.entry)) }
+fn zero_unit(body: BodyWords<'_>, v: usize) -> Option<usize>
+    ensures value { result ≡ zero_from (area_unit (told body.entry)) v (area_len (told body.entry) - v) }
+    ensures low { IfSome result (λ stop. v ≤ stop) }
+    ensures high { IfSome result (λ stop. stop < area_len (told body.entry)) }
 {
     for at in v..area_len(body) {
         if area_unit(body, at) == 0 {
-            return Ok(at);
+            return Some(at);
         }
     }
-    Err(ResbError::NoTree)
+    None
 }
 
 /// So many units from a place on, where they lie inside the 16-bit area.
-fn span_inside(body: BodyWords<'_>, from: usize, count: usize) -> Result<(usize, usize), ResbError>
-    ensures value { Gives (λ x. x) result (span_inside (told body.entry) from count) }
-    ensures lies { IfOk result (λ span. span.0 + span.1 ≤ area_len (told body.entry)) }
+fn span_inside(body: BodyWords<'_>, from: usize, count: usize) -> Option<(usize, usize)>
+    ensures value { result ≡ span_inside (told body.entry) from count }
+    ensures lies { IfSome result (λ span. span.0 + span.1 ≤ area_len (told body.entry)) }
 {
     let len = area_len(body);
     if from > len || count > len - from {
-        return Err(ResbError::NoTree);
+        return None;
     }
-    Ok((from, count))
+    Some((from, count))
 }
 
 /// The length that the first unit of a text of the 16-bit area tells, and where its units are.
-fn told_span(body: BodyWords<'_>, v: usize, first: usize) -> Result<(usize, usize), ResbError>
+fn told_span(body: BodyWords<'_>, v: usize, first: usize) -> Option<(usize, usize)>
     requires within { v < area_len (told body) }
     requires low { 0xDC00 ≤ first }
     requires high { first ≤ 0xDFFF }
-    ensures value { Gives (λ x. x) result (told_span (told body.entry) v first) }
-    ensures lies { IfOk result (λ span. span.0 + span.1 ≤ area_len (told body.entry)) }
+    ensures value { result ≡ told_span (told body.entry) v first }
+    ensures lies { IfSome result (λ span. span.0 + span.1 ≤ area_len (told body.entry)) }
 {
     if first < 0xDFEF {
         return span_inside(body, v + 1, first % 1024);
     }
     if first < 0xDFFF {
         if v + 1 >= area_len(body) {
-            return Err(ResbError::NoTree);
+            return None;
         }
         let count = (first - 0xDFEF) * 65_536 + area_unit(body, v + 1) as usize;
         return span_inside(body, v + 2, count);
     }
     if v + 2 >= area_len(body) {
-        return Err(ResbError::NoTree);
+        return None;
     }
     let count = area_unit(body, v + 1) as usize * 65_536 + area_unit(body, v + 2) as usize;
     span_inside(body, v + 3, count)
@@ -146,17 +145,17 @@ fn told_span(body: BodyWords<'_>, v: usize, first: usize) -> Result<(usize, usiz
 
 /// Where the units of a text of the 16-bit area are, and how many.
 #[tactic(auto, unfolding(crate::specs::Reading::short_span))]
-fn short_span(body: BodyWords<'_>, v: usize) -> Result<(usize, usize), ResbError>
-    ensures value { Gives (λ x. x) result (short_span (told body.entry) v) }
-    ensures lies { IfOk result (λ span. span.0 + span.1 ≤ area_len (told body.entry)) }
+pub fn short_span(body: BodyWords<'_>, v: usize) -> Option<(usize, usize)>
+    ensures value { result ≡ short_span (told body.entry) v }
+    ensures lies { IfSome result (λ span. span.0 + span.1 ≤ area_len (told body.entry)) }
 {
     if v >= area_len(body) {
-        return Err(ResbError::NoTree);
+        return None;
     }
     let first = area_unit(body, v) as usize;
     if first < 0xDC00 || 0xDFFF < first {
         let stop = zero_unit(body, v)?;
-        return Ok((v, stop - v));
+        return Some((v, stop - v));
     }
     told_span(body, v, first)
 }
@@ -184,7 +183,7 @@ pub fn short_text_of(
 ) -> Result<(Resource, usize), ResbError>
     ensures { Gives (λ x. x) result (short_text_within (told body.entry) v limit) }
 {
-    let (from, count) = short_span(body, v)?;
+    let (from, count) = short_span(body, v).ok_or(ResbError::NoTree)?;
     let left = spend(limit, count + 1)?;
     let units = area_units(alloc, body, from, count)?;
     Ok((Resource::Text(units), left))

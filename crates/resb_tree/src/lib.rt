@@ -2,10 +2,15 @@
 #![tactic(auto)]
 
 mod body;
+mod checker;
+mod checking;
+mod counts;
 mod error;
 mod forms;
+mod in_place;
 mod items;
 mod key;
+mod key_places;
 mod keys;
 mod leaves;
 mod places;
@@ -14,9 +19,12 @@ mod reading;
 mod resource;
 #[cfg(test)]
 mod tests;
+#[cfg(test)]
+mod tests_in_place;
 mod words;
 
 pub use error::ResbError;
+pub use in_place::{Bundle, BytesRef, EntriesRef, ItemsRef, KeyRef, ResourceRef, TextRef};
 pub use key::Key;
 pub use keys::are_distinct;
 pub use reading::read;

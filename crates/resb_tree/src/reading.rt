@@ -57,7 +57,7 @@ fn is_index(words: &[u32]) -> bool
 
 /// The words behind the header, with their ends.
 #[tactic(auto, unfolding(crate::specs::Header::body_of))]
-fn body_of(words: &[u32]) -> Result<BodyWords<'_>, ResbError>
+pub fn body_of(words: &[u32]) -> Result<BodyWords<'_>, ResbError>
     ensures value { Gives told result (body_of words.now) }
     ensures root { IfOk result (λ body. 0 < length body.words.now) }
 {

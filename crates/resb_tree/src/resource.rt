@@ -69,7 +69,7 @@ fn take_value(tree: &mut Resource, key: &[u8]) -> Option<Resource>
 }
 
 /// The low 28 bits of a number with their sign.
-fn sign_extended(v: u32) -> i32
+pub fn sign_extended(v: u32) -> i32
     requires { v < 268435456 }
     ensures { result ≡ sign_extended v }
 {

@@ -4,7 +4,7 @@ use std::alloc::{AllocError, Global};
 use std::test::Fail;
 
 /// A bundle of one zone, `Test/Plus2`, two hours east of Greenwich. Word 6 is the root item.
-const ONE_ZONE: [u32; 52] = [
+pub const ONE_ZONE: [u32; 52] = [
     0x27da_0018,
     0x0000_0014,
     0x0002_0000,
@@ -60,7 +60,7 @@ const ONE_ZONE: [u32; 52] = [
 ];
 
 /// The bundle with another word at a place.
-fn edited(alloc: Global, at: usize, word: u32) -> Result<Vec<u32>, AllocError> {
+pub fn edited(alloc: Global, at: usize, word: u32) -> Result<Vec<u32>, AllocError> {
     let mut words = Vec::with_capacity(alloc, 52)?;
     for (i, old) in ONE_ZONE.iter().enumerate() {
         words.push(if i == at { word } else { *old })?;
@@ -70,7 +70,7 @@ fn edited(alloc: Global, at: usize, word: u32) -> Result<Vec<u32>, AllocError> {
 
 /// A header of 24 bytes, a root item, the shortest index, the keys `a` at byte 32 and `b` at byte 34, and body words
 /// from 9 on. The 16-bit area ends at body word `area_end`, all data at `end`.
-fn small(
+pub fn small(
     alloc: Global,
     root: u32,
     area_end: u32,
@@ -99,7 +99,7 @@ fn small(
     Ok(words)
 }
 
-fn is_no_tree(answer: Result<Resource, ResbError>) -> bool {
+pub fn is_no_tree(answer: Result<Resource, ResbError>) -> bool {
     match answer {
         Ok(_) => false,
         Err(error) => error == ResbError::NoTree,
@@ -321,7 +321,7 @@ fn reads_wide_tables_and_bytes(rt: HostRuntime) -> Result<(), Fail> {
 }
 
 /// A table of 17 entries, whose keys are the ends of `abcdefghijklmnopq`, but the last key is that at `last`.
-fn long_table(alloc: Global, last: u32) -> Result<Vec<u32>, AllocError> {
+pub fn long_table(alloc: Global, last: u32) -> Result<Vec<u32>, AllocError> {
     let front = [
         0x27da_0018,
         0,
@@ -368,7 +368,7 @@ fn reads_long_tables(rt: HostRuntime) -> Result<(), Fail> {
 }
 
 /// An array of 18 times the same 30 integers and one more item, in 70 words.
-fn heavy(alloc: Global, item: u32) -> Result<Vec<u32>, AllocError> {
+pub fn heavy(alloc: Global, item: u32) -> Result<Vec<u32>, AllocError> {
     let mut rest = Vec::new(alloc);
     // one byte, at body word 9
     rest.extend_from_slice(&[1, 0])?;

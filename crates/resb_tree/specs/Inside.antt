@@ -1,0 +1,4 @@
+-- What serves private contracts alone: no reader needs it to know what the crate does.
+pub mod Checks
+pub mod Places
+pub mod Parts

@@ -1,0 +1,69 @@
+-- What stands at a place of a body, where something does.
+use Rattle.std.specs.Prelude.{◌≡◌, ℕ, ◌+◌, ◌≤◌, List, [], slice_index, Option, Some, None}
+use Rattle.resb_tree.specs.Words.{run}
+use Rattle.resb_tree.specs.Tree.{Body, tree_at, key_at, all_of, entries_of}
+use Rattle.resb_tree.specs.Forms.{item_in, items_end, entry_in, EntriesLie}
+use Rattle.resb_tree.specs.declared.forms.ArrayForm.{ArrayForm}
+use Rattle.resb_tree.specs.declared.forms.TableForm.{TableForm}
+use Rattle.resb_tree.specs.declared.resource.Resource.{Resource}
+use Rattle.resb_tree.specs.declared.resource.Resource.TheVariants as r
+
+-- a tree, or an empty array where there is none
+abbrev pub the_tree : Option Resource → Resource
+the_tree (Some t) = t
+the_tree None = r.Array []
+
+-- a list, or an empty one where there is none
+abbrev pub the_list : {A : Type 0} → Option (List A) → List A
+the_list (Some xs) = xs
+the_list None = []
+
+-- ---- a resource
+
+-- the tree that an item denotes
+abbrev pub tree_there : Body → ℕ → ℕ → Resource
+tree_there b levels item = the_tree (tree_at b levels item)
+
+-- an item denotes a tree
+abbrev pub IsTree : Body → ℕ → ℕ → Type 0
+IsTree b levels item = tree_at b levels item ≡ Some (tree_there b levels item)
+
+-- the tree of the root item
+abbrev pub root_there : Body → Resource
+root_there b = tree_there b 8 (slice_index b.words 0)
+
+-- the root item denotes a tree
+abbrev pub IsRoot : Body → Type 0
+IsRoot b = IsTree b 8 (slice_index b.words 0)
+
+-- ---- a key
+
+-- the key at a place
+abbrev pub key_there : Body → ℕ → List ℕ
+key_there b place = the_list (key_at b place)
+
+-- a key begins at a place
+abbrev pub IsKey : Body → ℕ → Type 0
+IsKey b place = key_at b place ≡ Some (key_there b place)
+
+-- ---- the items of an array
+
+-- the trees of so many items from a place on
+abbrev pub items_there : Body → ArrayForm → ℕ → ℕ → ℕ → List Resource
+items_there b form levels from count = the_list (all_of (tree_at b levels) (run (item_in form b) from count))
+
+-- so many items lie where they may, and denote trees
+pub record AreItems (b : Body) (form : ArrayForm) (levels from count : ℕ) : Type 0 where
+  pub lie : from + count ≤ items_end form b
+  pub all : all_of (tree_at b levels) (run (item_in form b) from count) ≡ Some (items_there b form levels from count)
+
+-- ---- the entries of a table
+
+-- the keys and trees of so many entries
+abbrev pub entries_there : Body → TableForm → ℕ → ℕ → ℕ → List (List ℕ × Resource)
+entries_there b form levels v count = the_list (entries_of (key_at b) (tree_at b levels) (run (entry_in form b v count) 0 count))
+
+-- so many entries lie where they may, and have keys and trees
+pub record AreEntries (b : Body) (form : TableForm) (levels v count : ℕ) : Type 0 where
+  pub lie : EntriesLie form b v count
+  pub all : entries_of (key_at b) (tree_at b levels) (run (entry_in form b v count) 0 count) ≡ Some (entries_there b form levels v count)
