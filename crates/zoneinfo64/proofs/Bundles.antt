@@ -17,16 +17,6 @@ use Rattle.zoneinfo64.specs.ZoneFields.{zone_rule, plain_zone_of}
 abbrev Find : Type 0
 Find = List ℕ → Option RawRule
 
--- ---- steps in a row
-
-pub in_a_row : {A B D : Type 0} (o : Option A) (f : A → Option B) (g : B → Option D) → ((o >>= f) >>= g) ≡ (o >>= λ x. (f x >>= g))
-in_a_row None f g = refl
-in_a_row (Some x) f g = refl
-
-pub none_after : {A B : Type 0} (o : Option A) → let none : Option B = None in (o >>= λ _. none) ≡ none
-none_after None = refl
-none_after (Some x) = refl
-
 -- ---- rules
 
 -- the same for two finders that find the same

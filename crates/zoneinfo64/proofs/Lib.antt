@@ -2,6 +2,7 @@ pub mod CheckedPlaces
 pub mod Names
 pub mod TextOrder
 pub mod NameOrder
+pub mod FieldParts
 pub mod Fronts
 pub mod Pairs
 pub mod Zones
@@ -11,6 +12,7 @@ pub mod Regions
 pub mod Bundles
 pub mod RuleKeys
 pub mod Tables
+pub mod UsedRules
 pub mod Wides
 pub mod RuleWords
 pub mod Resolved

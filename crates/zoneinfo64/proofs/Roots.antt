@@ -1,11 +1,11 @@
--- The root of a bundle, from which the arrays are taken one after the other.
+-- The root of a bundle, whose arrays are read one after the other.
 use Rattle.std.proofs.Common.{◌≡◌, ℕ, List, Option, Some, None, Err, refl, codes}
 use Rattle.resb_tree.specs.declared.resource.Resource.{Resource}
 use Rattle.zoneinfo64.specs.declared.error.BinaryDeserializerError.{BinaryDeserializerError}
 use Rattle.zoneinfo64.specs.declared.error.BinaryDeserializerError.TheVariants as errors
 use Rattle.timeline.specs.Zone.{RawRule}
 use Rattle.zoneinfo64.specs.Bundle.{array_in, table_in, zone_list}
-use Rattle.zoneinfo64.specs.Inside.Steps.{Reads, ReadsRules, Leaves}
+use Rattle.zoneinfo64.specs.Inside.Steps.{Reads, ReadsRules}
 use Rattle.zoneinfo64.specs.RuleFields.{rules_of}
 
 -- where a part is not read, the whole is not
@@ -18,21 +18,6 @@ pub rules_broken : {Y W : Type 0} (view : Y → W) (e : BinaryDeserializerError)
 rules_broken view errors.Memory rules whole none read = tt
 rules_broken view errors.Rules rules whole none read = none read
 rules_broken view errors.Tree rules whole none read = elim read [ ]
-
--- the names stay where the zones are taken
-pub names_left : (root next : Resource) → Leaves (codes "Zones") root next → array_in (codes "Names") next ≡ array_in (codes "Names") root
-unfolding array_in
-names_left root next leaves = rw (leaves (codes "Names") refl) refl
-
--- the regions stay where zones and names are taken
-pub regions_left : (root next later : Resource) → Leaves (codes "Zones") root next → Leaves (codes "Names") next later → array_in (codes "Regions") later ≡ array_in (codes "Regions") root
-unfolding array_in
-regions_left root next later one two = rw (two (codes "Regions") refl, one (codes "Regions") refl) refl
-
--- and the rules where the regions are taken too
-pub rules_left : (root next later last : Resource) → Leaves (codes "Zones") root next → Leaves (codes "Names") next later → Leaves (codes "Regions") later last → table_in (codes "Rules") last ≡ table_in (codes "Rules") root
-unfolding table_in
-rules_left root next later last one two three = rw (three (codes "Rules") refl, two (codes "Rules") refl, one (codes "Rules") refl) refl
 
 pub no_names : (root : Resource) (zones : List Resource) → array_in (codes "Zones") root ≡ Some zones → array_in (codes "Names") root ≡ None → zone_list root ≡ None
 unfolding zone_list

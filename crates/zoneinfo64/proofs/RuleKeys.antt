@@ -1,11 +1,12 @@
 -- Rules by their keys: what a map finds after one more rule was put in.
-use Rattle.std.proofs.Common.{◌≡◌, ℕ, zero, suc, ◌-◌, ◌<◌, ◌≤◌, Bool, true, false, cond, List, [], ◌∷◌, length, drop, get_or, Option, Some, None, Vec, Err, refl, sym, ap, ◌∙◌, drop-cons, arith}
+use Rattle.std.proofs.Common.{◌≡◌, ℕ, zero, suc, ◌+◌, ◌-◌, ◌<◌, Bool, true, false, cond, List, [], ◌∷◌, drop, Option, Some, None, Vec, Err, refl, sym, ap, ◌∙◌, arith}
 use Rattle.std.specs.declared.alloc.Global.{Global}
 use Rattle.std.specs.Ordering.{nat_cmp, is_eq, ordering_reverse}
 use Rattle.std.specs.declared.cmp.Ordering.{Ordering}
 use Rattle.std.specs.declared.cmp.Ordering.TheVariants.{Less, Equal, Greater}
 use Rattle.std.specs.Cmp.Lexicographic.{slice_cmp, nat_list_cmp_total, texts_ties}
 use Rattle.std.specs.Str.{bytes_eq}
+use Rattle.std.specs.List.{slice_get}
 use Rattle.std.specs.Map.{lookup}
 use Rattle.std.specs.BTreeMap.{BTreeMap, insert_entry}
 use Rattle.std.proofs.lemmas.Cmp.{alike_right}
@@ -18,6 +19,7 @@ use Rattle.timeline.specs.Zone.{RawRule}
 use Rattle.zoneinfo64.specs.Inside.Steps.{Reads, ReadsRules, HasRules, rule_in}
 use Rattle.zoneinfo64.specs.RuleFields.{raw_rule, rules_of, rule_named}
 use Rattle.zoneinfo64.specs.Inside.RuleView.{rule_for}
+use Rattle.zoneinfo64.proofs.FieldParts.{drop_one}
 
 abbrev Key : Type 0
 Key = Vec ℕ Global
@@ -126,17 +128,16 @@ none_before front at h = by front at h
     by (e ∷ es) (suc n) h = rw (by es n h) (nothing (integers_in e.1) e.0)
 
 -- the entry before a place
-pub one_before : (entries : List (List ℕ × Resource)) (at : ℕ) (e : List ℕ × Resource) → 0 < at → at ≤ length entries → e ≡ get_or entries (at - 1) e → drop (at - 1) entries ≡ e ∷ drop at entries
-one_before entries at e positive most is =
-    let next : suc (at - 1) ≡ at = omega arith in
-    let front : drop (at - 1) entries ≡ get_or entries (at - 1) e ∷ drop (suc (at - 1)) entries = drop-cons entries (at - 1) e (omega arith) in
-    front ∙ rw (next, ← is) refl
+pub one_before : (entries : List (List ℕ × Resource)) (at : ℕ) (e : List ℕ × Resource) → 0 < at → slice_get entries (at - 1) ≡ Some e → drop (at - 1) entries ≡ e ∷ drop at entries
+one_before entries at e positive there =
+    let next : at - 1 + 1 ≡ at = omega arith in
+    drop_one entries (at - 1) e there ∙ rw next refl
 
 -- a rule that is broken breaks all
-pub rules_broken : (error : BinaryDeserializerError) (entries : List (List ℕ × Resource)) (at : ℕ) (e : List ℕ × Resource) → 0 < at → at ≤ length entries → e ≡ get_or entries (at - 1) e
+pub rules_broken : (error : BinaryDeserializerError) (entries : List (List ℕ × Resource)) (at : ℕ) (e : List ℕ × Resource) → 0 < at → slice_get entries (at - 1) ≡ Some e
     → Reads (λ r. r) (Err error) (rule_in e.1) → ReadsRules (Err error) (rules_of entries)
-rules_broken errors.Memory entries at e positive most is read = read
-rules_broken errors.Rules entries at e positive most is read =
-    let broken : rules_of (drop (at - 1) entries) ≡ None = rw (one_before entries at e positive most is) (rule_broken e (drop at entries) read) in
+rules_broken errors.Memory entries at e positive there read = read
+rules_broken errors.Rules entries at e positive there read =
+    let broken : rules_of (drop (at - 1) entries) ≡ None = rw (one_before entries at e positive there) (rule_broken e (drop at entries) read) in
     none_before entries (at - 1) broken
-rules_broken errors.Tree entries at e positive most is read = read
+rules_broken errors.Tree entries at e positive there read = read

@@ -4,3 +4,4 @@ pub mod RuleView
 pub mod Steps
 pub mod Verdicts
 pub mod ZoneList
+pub mod ZoneParts

@@ -3,7 +3,7 @@ ghost use Rattle.std.specs.Prelude.{◌≡◌, length, All, IfOk, is_some};
 ghost use Rattle.zoneinfo64.specs.NamedZone.{zone_at};
 ghost use Rattle.resb_tree.specs.Header.{tree_of};
 ghost use Rattle.zoneinfo64.specs.Bundle.{rises, is_resolved, all_resolved, place_of, named_zone, named_zones, array_in, table_in, are_arrays, checked_zones, zone_list, zones_of_words};
-ghost use Rattle.zoneinfo64.specs.Inside.Steps.{Reads, Leaves, is_before};
+ghost use Rattle.zoneinfo64.specs.Inside.Steps.{Reads, is_before};
 ghost use Rattle.zoneinfo64.specs.Inside.RuleView.{rule_for};
 ghost use Rattle.zoneinfo64.specs.Inside.ZoneList.{zones_of, named_of, place_of_item, HasText, AreEntries};
 
@@ -12,14 +12,17 @@ use crate::fields::{region_of, zone_data};
 use crate::rules::{Rules, rules};
 use crate::utf16::PotentialUtf16;
 use crate::zone::{Item, Named, ZoneInfo64};
-use resb_tree::{Key, ResbError, Resource};
-use sqlite_items::Items;
+use resb_tree::{Bundle, EntriesRef, ItemsRef, ResbError, ResourceRef};
 use std::alloc::Global;
 
 /// A zone, or the place of one.
 #[tactic(auto, unfolding(crate::specs::Bundle::place_of))]
-fn item(alloc: Global, rules: &Rules, zone: Resource) -> Result<Item, BinaryDeserializerError>
-    ensures { Reads place_of_item result (place_of (rule_for rules.now) zone) }
+fn item(
+    alloc: Global,
+    rules: &Rules,
+    zone: &ResourceRef<'_>,
+) -> Result<Item, BinaryDeserializerError>
+    ensures { Reads place_of_item result (place_of (rule_for rules.now) zone.now) }
 {
     match zone.index() {
         Some(place) => Ok(Item::Alias(place)),
@@ -30,28 +33,30 @@ fn item(alloc: Global, rules: &Rules, zone: Resource) -> Result<Item, BinaryDese
     }
 }
 
-/// One zone with its name and region. The units of the name are moved.
+/// One zone with its name and region. The units of the name are copied.
 #[tactic(auto, unfolding(crate::specs::Bundle::named_zone))]
 fn named(
     alloc: Global,
     rules: &Rules,
-    zone: Resource,
-    name: Resource,
-    region: &Resource,
+    zone: &ResourceRef<'_>,
+    name: &ResourceRef<'_>,
+    region: &ResourceRef<'_>,
 ) -> Result<Named, BinaryDeserializerError>
-    ensures zone { Reads named_of result (named_zone (rule_for rules.now) zone name region.now) }
+    ensures zone { Reads named_of result
+        (named_zone (rule_for rules.now) zone.now name.now region.now) }
     ensures text { IfOk result HasText }
 {
-    let Some(units) = name.into_text() else {
+    let Some(name) = name.text() else {
         return Err(BinaryDeserializerError::Rules);
     };
     let Some(region_units) = region.text() else {
         return Err(BinaryDeserializerError::Rules);
     };
-    let Some(region) = region_of(region_units) else {
+    let Some(region) = region_of(&region_units) else {
         return Err(BinaryDeserializerError::Rules);
     };
     let item = item(alloc, rules, zone)?;
+    let units = name.to_items(alloc)?;
     let text = String::from_utf16_lossy(alloc, units.as_slice())?;
     Ok(Named {
         name: PotentialUtf16::from_units(units),
@@ -61,31 +66,28 @@ fn named(
     })
 }
 
-/// The zones of three arrays, read side by side, from the last on, as items are moved out of the end of a list.
+/// The zones of three arrays, read side by side.
 fn named_zones(
     alloc: Global,
     rules: &Rules,
-    mut zones: Items<Resource>,
-    mut names: Items<Resource>,
-    regions: &[Resource],
+    zones: &ItemsRef<'_>,
+    names: &ItemsRef<'_>,
+    regions: &ItemsRef<'_>,
 ) -> Result<Vec<Named>, BinaryDeserializerError>
-    requires names { length names ≡ length zones }
-    requires regions { length regions.now ≡ length zones }
+    requires names { length names.now ≡ length zones.now }
+    requires regions { length regions.now ≡ length zones.now }
     ensures zones { Reads (λ v. zones_of v.items) result
-        (named_zones (rule_for rules.now) zones names regions.now) }
+        (named_zones (rule_for rules.now) zones.now names.now regions.now) }
     ensures texts { IfOk result (λ v. All HasText v.items) }
 {
-    let mut entries = Vec::with_capacity(alloc, regions.len())?;
-    let mut at = regions.len();
-    while at > 0 {
-        at -= 1;
-        let (Some(zone), Some(name)) = (zones.pop(), names.pop()) else {
-            unreachable!()
-        };
-        let entry = named(alloc, rules, zone, name, &regions[at])?;
+    let mut entries = Vec::with_capacity(alloc, zones.len())?;
+    for at in 0..zones.len() {
+        let zone = zones.at(at);
+        let name = names.at(at);
+        let region = regions.at(at);
+        let entry = named(alloc, rules, &zone, &name, &region)?;
         entries.push(entry)?;
     }
-    entries.reverse();
     Ok(entries)
 }
 
@@ -111,27 +113,24 @@ fn rises(entries: &[Named]) -> bool
     true
 }
 
-/// Takes an array out of the root.
+/// An array of the root.
 #[tactic(auto, unfolding(crate::specs::Bundle::array_in))]
-fn array(root: &mut Resource, key: &[u8]) -> Result<Items<Resource>, BinaryDeserializerError>
-    ensures items { Reads (λ items. items) result (array_in key.now root.old) }
-    ensures others { Leaves key.now root.old root.new }
+fn array<'a>(root: &ResourceRef<'a>, key: &[u8]) -> Result<ItemsRef<'a>, BinaryDeserializerError>
+    ensures { Reads (λ items. items) result (array_in key.now root.now) }
 {
-    let Some(field) = root.take_field(key) else {
+    let Some(field) = root.field(key) else {
         return Err(BinaryDeserializerError::Rules);
     };
-    match field.into_items() {
+    match field.items() {
         Some(items) => Ok(items),
         None => Err(BinaryDeserializerError::Rules),
     }
 }
 
+/// A table of the root.
 #[tactic(auto, unfolding(crate::specs::Bundle::table_in))]
-fn table<'a>(
-    root: &'a Resource,
-    key: &[u8],
-) -> Result<&'a [(Key, Resource)], BinaryDeserializerError>
-    ensures { Reads (λ r. r.now) result (table_in key.now root.now) }
+fn table<'a>(root: &ResourceRef<'a>, key: &[u8]) -> Result<EntriesRef<'a>, BinaryDeserializerError>
+    ensures { Reads (λ entries. entries) result (table_in key.now root.now) }
 {
     let Some(field) = root.field(key) else {
         return Err(BinaryDeserializerError::Rules);
@@ -174,13 +173,11 @@ fn all_resolved(entries: &[Named]) -> bool
 }
 
 /// Whether three arrays have one length, and a list of zones may have it.
-fn are_arrays(zones: &[Resource], names: &[Resource], regions: &[Resource]) -> bool
+fn are_arrays(zones: &ItemsRef<'_>, names: &ItemsRef<'_>, regions: &ItemsRef<'_>) -> bool
     ensures { result ≡ are_arrays zones.now names.now regions.now }
 {
-    !zones.is_empty()
-        && zones.len() <= 65_536
-        && names.len() == zones.len()
-        && regions.len() == zones.len()
+    let len = zones.len();
+    len > 0 && len <= 65_536 && names.len() == len && regions.len() == len
 }
 
 /// The zones of three arrays.
@@ -188,15 +185,15 @@ fn are_arrays(zones: &[Resource], names: &[Resource], regions: &[Resource]) -> b
 fn checked_zones(
     alloc: Global,
     rules: &Rules,
-    zones: Items<Resource>,
-    names: Items<Resource>,
-    regions: &[Resource],
+    zones: &ItemsRef<'_>,
+    names: &ItemsRef<'_>,
+    regions: &ItemsRef<'_>,
 ) -> Result<Vec<Named>, BinaryDeserializerError>
     ensures zones { Reads (λ v. zones_of v.items) result
-        (checked_zones (rule_for rules.now) zones names regions.now) }
+        (checked_zones (rule_for rules.now) zones.now names.now regions.now) }
     ensures entries { IfOk result (λ v. AreEntries v.items) }
 {
-    if !are_arrays(zones.as_slice(), names.as_slice(), regions) {
+    if !are_arrays(zones, names, regions) {
         return Err(BinaryDeserializerError::Rules);
     }
     let entries = named_zones(alloc, rules, zones, names, regions)?;
@@ -209,15 +206,16 @@ fn checked_zones(
 
 /// The zones of the tree of a bundle.
 #[tactic(auto, unfolding(crate::specs::Bundle::zone_list))]
-fn zones_in(alloc: Global, mut root: Resource) -> Result<Vec<Named>, BinaryDeserializerError>
-    ensures zones { Reads (λ v. zones_of v.items) result (zone_list root) }
+fn zones_in(alloc: Global, root: &ResourceRef<'_>) -> Result<Vec<Named>, BinaryDeserializerError>
+    ensures zones { Reads (λ v. zones_of v.items) result (zone_list root.now) }
     ensures entries { IfOk result (λ v. AreEntries v.items) }
 {
-    let zones = array(&mut root, b"Zones")?;
-    let names = array(&mut root, b"Names")?;
-    let regions = array(&mut root, b"Regions")?;
-    let rules = rules(alloc, table(&root, b"Rules")?)?;
-    checked_zones(alloc, &rules, zones, names, regions.as_slice())
+    let zones = array(root, b"Zones")?;
+    let names = array(root, b"Names")?;
+    let regions = array(root, b"Regions")?;
+    let table = table(root, b"Rules")?;
+    let rules = rules(alloc, &table)?;
+    checked_zones(alloc, &rules, &zones, &names, &regions)
 }
 
 impl ZoneInfo64 {
@@ -243,12 +241,12 @@ impl ZoneInfo64 {
         ensures rules { IsErrOf result errors.Rules
             → IsSome (tree_of words.now) × (zones_of_words words.now ≡ None) }
     {
-        let root = match resb_tree::read(alloc, words) {
-            Ok(root) => root,
+        let bundle = match Bundle::open(alloc, words) {
+            Ok(bundle) => bundle,
             Err(ResbError::Memory) => return Err(BinaryDeserializerError::Memory),
             Err(_) => return Err(BinaryDeserializerError::Tree),
         };
-        let entries = zones_in(alloc, root)?;
+        let entries = zones_in(alloc, &bundle.root())?;
         Ok(ZoneInfo64::from_entries(entries))
     }
 }

@@ -1,17 +1,18 @@
 //! The fields of a zone.
 ghost use Rattle.std.specs.Prelude.{◌≡◌, ℕ, ◌+◌, ◌<◌, ◌≤◌, ◌++◌, ◌↔◌, All, map, IsTrue, IfOk, IfSome, length, vec_len, vec_capacity};
-ghost use Rattle.resb_tree.specs.Fields.{field_in, integers_in};
 ghost use Rattle.timeline.specs.Table.{sums_fit};
 ghost use Rattle.zoneinfo64.specs.Bundle.{region_byte, region_byte_at, region_of};
-ghost use Rattle.zoneinfo64.specs.Inside.Steps.{Reads, wide, wide_second, seconds_of, plain_seconds, AreKnown, Leaves};
-ghost use Rattle.zoneinfo64.specs.RuleFields.{as_i32, used_rule};
-ghost use Rattle.zoneinfo64.specs.ZoneFields.{pair_of, offset_pairs, type_offsets, integers_at, bytes_at, wide_at, zone_rule, plain_zone_of};
+ghost use Rattle.zoneinfo64.specs.Inside.Steps.{Reads, wide, wide_second, seconds_of, plain_seconds, AreKnown};
+ghost use Rattle.zoneinfo64.specs.Inside.ZoneParts.{offsets_in, words_in, numbers_in, wide_in, zone_in};
+ghost use Rattle.zoneinfo64.specs.RuleFields.{as_i32, used_rule, rule_fields};
+ghost use Rattle.zoneinfo64.specs.ZoneFields.{pair_of, offset_pairs, plain_zone_of};
 ghost use Rattle.zoneinfo64.specs.Inside.RuleView.{rule_for};
 
 use crate::error::BinaryDeserializerError;
+use crate::parts::{ZoneParts, zone_parts};
 use crate::region::Region;
-use crate::rules::Rules;
-use resb_tree::Resource;
+use crate::rules::{Rules, rule_by_text};
+use resb_tree::{ResourceRef, TextRef};
 use sqlite_items::Items;
 use std::alloc::{AllocError, Global};
 use timeline::{Seconds, ZoneData, ZoneRule};
@@ -24,18 +25,18 @@ fn region_byte(unit: u16) -> u8
 }
 
 /// The nth unit as a byte, 0 where there is none.
-fn region_byte_at(units: &[u16], n: usize) -> u8
+fn region_byte_at(units: &TextRef<'_>, n: usize) -> u8
     ensures { result ≡ region_byte_at units.now n }
 {
     match units.get(n) {
-        Some(unit) => region_byte(*unit),
+        Some(unit) => region_byte(unit),
         None => 0,
     }
 }
 
 /// The region of a text: two capitals, or three digits.
 #[tactic(auto, using(crate::proofs::Regions::region_is))]
-pub fn region_of(units: &[u16]) -> Option<Region>
+pub fn region_of(units: &TextRef<'_>) -> Option<Region>
     ensures { result ≡ region_of units.now }
 {
     // A pair of surrogates is one character, which counts as 0, and so do its units.
@@ -84,12 +85,16 @@ fn offset_pairs(alloc: Global, words: &[u32]) -> Result<Vec<(i32, i32)>, BinaryD
     }
 }
 
-#[tactic(auto, unfolding(crate::specs::ZoneFields::type_offsets))]
-fn type_offsets(alloc: Global, zone: &Resource) -> Result<Vec<(i32, i32)>, BinaryDeserializerError>
-    ensures pairs { Reads (λ v. v.items) result (type_offsets zone.now) }
+/// The pairs of offsets of a field, which has to be there.
+#[tactic(auto, unfolding(crate::specs::Inside::ZoneParts::offsets_in))]
+fn type_offsets(
+    alloc: Global,
+    part: &Option<ResourceRef<'_>>,
+) -> Result<Vec<(i32, i32)>, BinaryDeserializerError>
+    ensures pairs { Reads (λ v. v.items) result (offsets_in part.now) }
     ensures fit { IfOk result (λ v. IsTrue (sums_fit v.items)) }
 {
-    let Some(field) = zone.field(b"typeOffsets") else {
+    let Some(field) = part else {
         return Err(BinaryDeserializerError::Rules);
     };
     let Some(words) = field.integers() else {
@@ -99,11 +104,11 @@ fn type_offsets(alloc: Global, zone: &Resource) -> Result<Vec<(i32, i32)>, Binar
 }
 
 /// A list of integers, empty where it is missing.
-#[tactic(auto, unfolding(crate::specs::ZoneFields::integers_at))]
-fn integers<'a>(zone: &'a Resource, key: &[u8]) -> Result<&'a [u32], BinaryDeserializerError>
-    ensures { Reads (λ r. r.now) result (integers_at key.now zone.now) }
+#[tactic(auto, unfolding(crate::specs::Inside::ZoneParts::words_in))]
+fn integers<'a>(part: &Option<ResourceRef<'a>>) -> Result<&'a [u32], BinaryDeserializerError>
+    ensures { Reads (λ r. r.now) result (words_in part.now) }
 {
-    let Some(field) = zone.field(key) else {
+    let Some(field) = part else {
         return Ok(&[]);
     };
     match field.integers() {
@@ -112,26 +117,30 @@ fn integers<'a>(zone: &'a Resource, key: &[u8]) -> Result<&'a [u32], BinaryDeser
     }
 }
 
-/// A list of bytes, empty where it is missing.
-#[tactic(auto, unfolding(crate::specs::ZoneFields::bytes_at))]
-fn bytes<'a>(zone: &'a Resource, key: &[u8]) -> Result<&'a [u8], BinaryDeserializerError>
-    ensures { Reads (λ r. r.now) result (bytes_at key.now zone.now) }
+/// A copy of a list of bytes, empty where it is missing.
+#[tactic(auto, unfolding(crate::specs::Inside::ZoneParts::numbers_in))]
+fn bytes(
+    alloc: Global,
+    part: &Option<ResourceRef<'_>>,
+) -> Result<Items<u8>, BinaryDeserializerError>
+    ensures { Reads (λ items. items) result (numbers_in part.now) }
 {
-    let Some(field) = zone.field(key) else {
-        return Ok(&[]);
+    let Some(field) = part else {
+        return Ok(Items::new(alloc));
     };
-    match field.bytes() {
-        Some(bytes) => Ok(bytes),
-        None => Err(BinaryDeserializerError::Rules),
-    }
+    let Some(bytes) = field.bytes() else {
+        return Err(BinaryDeserializerError::Rules);
+    };
+    let items = bytes.to_items(alloc)?;
+    Ok(items)
 }
 
 /// The words of a list of seconds, two each, empty where it is missing.
-#[tactic(auto, unfolding(crate::specs::ZoneFields::wide_at))]
-fn wide<'a>(zone: &'a Resource, key: &[u8]) -> Result<&'a [u32], BinaryDeserializerError>
-    ensures { Reads (λ r. wide r.now) result (wide_at key.now zone.now) }
+#[tactic(auto, unfolding(crate::specs::Inside::ZoneParts::wide_in))]
+fn wide<'a>(part: &Option<ResourceRef<'a>>) -> Result<&'a [u32], BinaryDeserializerError>
+    ensures { Reads (λ r. wide r.now) result (wide_in part.now) }
 {
-    let words = integers(zone, key)?;
+    let words = integers(part)?;
     if words.len() % 2 == 0 {
         Ok(words)
     } else {
@@ -234,10 +243,11 @@ fn are_entries(
 /// The rule that a zone names.
 #[tactic(auto, unfolding(crate::specs::RuleFields::used_rule))]
 fn used_rule(
+    alloc: Global,
     rules: &Rules,
-    key: &Resource,
-    raw: &Resource,
-    year: &Resource,
+    key: &ResourceRef<'_>,
+    raw: &ResourceRef<'_>,
+    year: &ResourceRef<'_>,
 ) -> Result<ZoneRule, BinaryDeserializerError>
     ensures { Reads (λ r. r) result (used_rule (rule_for rules.now) key.now raw.now year.now) }
 {
@@ -250,7 +260,7 @@ fn used_rule(
     let Some(first_year) = year.signed() else {
         return Err(BinaryDeserializerError::Rules);
     };
-    let Some(dates) = rules.get(text) else {
+    let Some(dates) = rule_by_text(alloc, rules, &text)? else {
         return Err(BinaryDeserializerError::Rules);
     };
     match ZoneRule::from_dates(dates, raw, first_year) {
@@ -260,78 +270,68 @@ fn used_rule(
 }
 
 /// The rule of a zone, if it has the three fields of one.
-#[tactic(auto, unfolding(crate::specs::ZoneFields::zone_rule))]
-fn zone_rule(rules: &Rules, zone: &Resource) -> Result<Option<ZoneRule>, BinaryDeserializerError>
-    ensures { Reads (λ r. r) result (zone_rule (rule_for rules.now) zone.now) }
+fn zone_rule(
+    alloc: Global,
+    rules: &Rules,
+    key: &Option<ResourceRef<'_>>,
+    raw: &Option<ResourceRef<'_>>,
+    year: &Option<ResourceRef<'_>>,
+) -> Result<Option<ZoneRule>, BinaryDeserializerError>
+    ensures { Reads (λ r. r) result (rule_fields (rule_for rules.now) key.now raw.now year.now) }
 {
-    let key = zone.field(b"finalRule");
-    let raw = zone.field(b"finalRaw");
-    let year = zone.field(b"finalYear");
     match (key, raw, year) {
         (None, None, None) => Ok(None),
         (Some(key), Some(raw), Some(year)) => {
-            let rule = used_rule(rules, key, raw, year)?;
+            let rule = used_rule(alloc, rules, key, raw, year)?;
             Ok(Some(rule))
         }
         _ => Err(BinaryDeserializerError::Rules),
     }
 }
 
-/// Takes a list of bytes out of a zone, empty where it is missing.
-#[tactic(auto, unfolding(crate::specs::ZoneFields::bytes_at))]
-fn taken_bytes(alloc: Global, zone: &mut Resource, key: &[u8]) -> Items<u8>
-    ensures value { IfSome (bytes_at key.now zone.old) (λ bytes. result ≡ bytes) }
-    ensures others { Leaves key.now zone.old zone.new }
-{
-    match zone.take_field(key) {
-        Some(field) => match field.into_bytes() {
-            Some(bytes) => bytes,
-            None => Items::new(alloc),
-        },
-        None => Items::new(alloc),
-    }
-}
-
-/// Takes a list of integers out of a zone, empty where it is missing.
-#[tactic(auto, unfolding(crate::specs::ZoneFields::integers_at))]
-fn taken_integers(alloc: Global, zone: &mut Resource, key: &[u8]) -> Items<u32>
-    ensures { IfSome (integers_at key.now zone.old) (λ words. result ≡ words) }
-{
-    match zone.take_field(key) {
-        Some(field) => match field.into_integers() {
-            Some(words) => words,
-            None => Items::new(alloc),
-        },
-        None => Items::new(alloc),
-    }
-}
-
 /// A zone from the table of its fields.
-#[tactic(auto, unfolding(crate::specs::ZoneFields::plain_zone_of))]
 pub fn zone_data(
     alloc: Global,
     rules: &Rules,
-    mut zone: Resource,
+    zone: &ResourceRef<'_>,
 ) -> Result<ZoneData, BinaryDeserializerError>
-    ensures { Reads (λ z. z) result (plain_zone_of (rule_for rules.now) zone) }
+    ensures { Reads (λ z. z) result (plain_zone_of (rule_for rules.now) zone.now) }
 {
-    let type_offsets = type_offsets(alloc, &zone)?;
+    let parts = zone_parts(zone);
+    zone_from(alloc, rules, &parts)
+}
+
+/// A zone from its fields. What is kept of them is copied, once each.
+#[tactic(auto, unfolding(crate::specs::Inside::ZoneParts::zone_in))]
+fn zone_from(
+    alloc: Global,
+    rules: &Rules,
+    parts: &ZoneParts<'_>,
+) -> Result<ZoneData, BinaryDeserializerError>
+    ensures { Reads (λ z. z) result (zone_in (rule_for rules.now) parts.now) }
+{
+    let type_offsets = type_offsets(alloc, &parts.type_offsets)?;
     let pairs = type_offsets.as_slice();
     if pairs.is_empty() {
         return Err(BinaryDeserializerError::Rules);
     }
-    let early = wide(&zone, b"transPre32")?;
-    let middle = integers(&zone, b"trans")?;
-    let late = wide(&zone, b"transPost32")?;
-    let numbers = bytes(&zone, b"typeMap")?;
-    integers(&zone, b"links")?;
+    let early = wide(&parts.trans_pre32)?;
+    let middle = integers(&parts.trans)?;
+    let late = wide(&parts.trans_post32)?;
+    let type_map = bytes(alloc, &parts.type_map)?;
+    let link_words = integers(&parts.links)?;
+    let numbers = type_map.as_slice();
     if !are_entries(pairs, early, middle, late, numbers) {
         return Err(BinaryDeserializerError::Rules);
     }
     let seconds = seconds(alloc, early, middle, late, numbers.len())?;
-    let rule = zone_rule(rules, &zone)?;
-    // what is kept as it was read is moved, and has no second copy
-    let type_map = taken_bytes(alloc, &mut zone, b"typeMap");
-    let links = taken_integers(alloc, &mut zone, b"links");
+    let rule = zone_rule(
+        alloc,
+        rules,
+        &parts.final_rule,
+        &parts.final_raw,
+        &parts.final_year,
+    )?;
+    let links = Items::from_slice(alloc, link_words)?;
     Ok(ZoneData::new(seconds, rule, type_offsets, type_map, links))
 }

@@ -7,6 +7,7 @@ mod chrono;
 mod error;
 mod fields;
 pub mod laws;
+mod parts;
 mod region;
 mod rule_words;
 mod rules;

@@ -8,7 +8,7 @@ ghost use Rattle.zoneinfo64.specs.Inside.RuleView.{rule_for};
 
 use crate::error::BinaryDeserializerError;
 use crate::rule_words::dates;
-use resb_tree::{Key, Resource};
+use resb_tree::{EntriesRef, KeyRef, ResourceRef, TextRef};
 use std::alloc::{AllocError, Global};
 use std::collections::BTreeMap;
 use timeline::PlacedDates;
@@ -17,11 +17,12 @@ use timeline::PlacedDates;
 pub type Rules = BTreeMap<Vec<u16>, PlacedDates>;
 
 /// A key as units.
-fn units(alloc: Global, key: &[u8]) -> Result<Vec<u16>, AllocError>
+fn units(alloc: Global, key: &KeyRef<'_>) -> Result<Vec<u16>, AllocError>
     ensures { IfOk result (λ v. v.items ≡ key.now) }
 {
-    let mut units = Vec::with_capacity(alloc, key.len())?;
-    for byte in key {
+    let bytes = key.to_items(alloc)?;
+    let mut units = Vec::with_capacity(alloc, bytes.len())?;
+    for byte in bytes.as_slice() {
         units.push(u16::from(*byte))?;
     }
     Ok(units)
@@ -29,7 +30,7 @@ fn units(alloc: Global, key: &[u8]) -> Result<Vec<u16>, AllocError>
 
 /// The rule of a list of eleven integers.
 #[tactic(auto, unfolding(crate::specs::Inside::Steps::rule_in))]
-fn rule(value: &Resource) -> Result<PlacedDates, BinaryDeserializerError>
+fn rule(value: &ResourceRef<'_>) -> Result<PlacedDates, BinaryDeserializerError>
     ensures { Reads (λ r. r) result (rule_in value.now) }
 {
     let Some(words) = value.integers() else {
@@ -42,17 +43,29 @@ fn rule(value: &Resource) -> Result<PlacedDates, BinaryDeserializerError>
 }
 
 /// All rules of a bundle. Of rules with one key the first counts, so they are put in from the last on.
-pub fn rules(alloc: Global, entries: &[(Key, Resource)]) -> Result<Rules, BinaryDeserializerError>
+pub fn rules(alloc: Global, entries: &EntriesRef<'_>) -> Result<Rules, BinaryDeserializerError>
     ensures { ReadsRules result (rules_of entries.now) }
 {
     let mut rules = BTreeMap::new(alloc);
     let mut at = entries.len();
     while at > 0 {
         at -= 1;
-        let (key, value) = &entries[at];
-        let dates = rule(value)?;
-        let key = units(alloc, key.as_slice())?;
+        let (key, value) = entries.at(at);
+        let dates = rule(&value)?;
+        let key = units(alloc, &key)?;
         rules.insert(key, dates)?;
     }
     Ok(rules)
+}
+
+/// The rule whose key is a text. The text's units are copied to be looked up.
+pub fn rule_by_text<'r>(
+    alloc: Global,
+    rules: &'r Rules,
+    text: &TextRef<'_>,
+) -> Result<Option<&'r PlacedDates>, AllocError>
+    ensures { IfOk result (λ found. option_copied found ≡ rule_for rules.now text.now) }
+{
+    let units = text.to_items(alloc)?;
+    Ok(rules.get(units.as_slice()))
 }

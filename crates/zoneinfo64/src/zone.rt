@@ -201,8 +201,8 @@ impl<'a> Zone<'a> {
         second: u8,
     ) -> PossibleOffset
         requires { IsDateTime year month day hour minute second }
-        ensures answers { IfSome (plain_zone self.now)
-            (λ z. IsLawful z → AnswersWall z (wall_second (day_of year month day) hour minute second) result) }
+        ensures answers { IfSome (plain_zone self.now) (λ z. IsLawful z
+            → AnswersWall z (wall_second (day_of year month day) hour minute second) result) }
         ensures placed { IfSome (plain_zone self.now) (λ z. IsLawful z
             → IsPlaced z (wall_second (day_of year month day) hour minute second)
             (wall_second (day_of year month day) hour minute second -ℤ (placing result).offset)) }

@@ -2,11 +2,10 @@
 use Rattle.std.specs.BTreeMap.{BTreeMap}
 use Rattle.std.specs.Cmp.Lexicographic.{slice_cmp}
 use Rattle.std.specs.Ordering.{nat_cmp, is_lt}
-use Rattle.std.specs.Prelude.{ℕ, Bool, List, [], ◌∷◌, ◌++◌, length, map, Option, Some, None, ℤ, pos, ◌+ℤ◌, ◌*ℤ◌, ◌<◌, All, Result, Ok, Err, false, ◌≡◌, Vec}
-use Rattle.std.specs.Str.{bytes_eq}
+use Rattle.std.specs.Prelude.{ℕ, Bool, List, [], ◌∷◌, ◌++◌, length, map, Option, Some, None, ℤ, pos, ◌+ℤ◌, ◌*ℤ◌, ◌<◌, All, Result, Ok, Err, ◌≡◌, Vec}
 use Rattle.std.specs.declared.alloc.Global.{Global}
 use Rattle.resb_tree.specs.Tree.{◌>>=◌}
-use Rattle.resb_tree.specs.Fields.{field_in, integers_in}
+use Rattle.resb_tree.specs.Fields.{integers_in}
 use Rattle.resb_tree.specs.declared.resource.Resource.{Resource}
 use Rattle.timeline.specs.Table.{PlainSeconds}
 use Rattle.timeline.specs.Zone.{RawRule}
@@ -72,12 +71,6 @@ plain_seconds early middle late = record { list = seconds_of early middle late; 
 -- each second has a number, which is that of a pair
 abbrev pub AreKnown : List (ℤ × ℤ) → List ℤ → List ℕ → Type 0
 AreKnown pairs seconds numbers = (length numbers ≡ length seconds) × All (λ n. n < length pairs) numbers
-
--- ---- fields that are taken
-
--- the fields with other keys stay
-abbrev pub Leaves : List ℕ → Resource → Resource → Type 0
-Leaves key old new = (other : List ℕ) → bytes_eq other key ≡ false → field_in other new ≡ field_in other old
 
 -- ---- names
 

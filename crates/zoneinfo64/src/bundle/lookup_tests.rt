@@ -1,11 +1,14 @@
 ghost use Rattle.std.specs.Prelude.{◌≡◌, ◌<◌};
 
 use super::trees::{
-    US, ascii, bundle, integers, is_refused, no_rules, one_zone, pair, put, text, three_zones, zone,
+    US, ascii, bundle, integers, is_refused, no_rules, one_zone, pair, put, read_tree, text,
+    three_zones, zone,
 };
 use super::*;
 use crate::region::Region;
 use crate::zone::Zone;
+use resb_tree::Resource;
+use sqlite_items::Items;
 use std::alloc::AllocError;
 use std::marker::Brand;
 use std::sync::ledger::{Blank, Ledger};
@@ -49,7 +52,7 @@ fn refuses_aliases(rt: HostRuntime) -> Result<(), Fail> {
 fn finds_zones_by_their_names(rt: HostRuntime) -> Result<(), Fail> {
     let alloc = rt.alloc();
     let root = three_zones(alloc, Resource::Integer(0))?;
-    let info = ZoneInfo64::from_entries(zones_in(alloc, root)?);
+    let info = ZoneInfo64::from_entries(read_tree(alloc, root)?);
     let rows = [
         ("America/Los_Angeles", *b"US\0"),
         ("Test/Plus2", *b"001"),
@@ -93,7 +96,7 @@ fn pacific(summer: bool) -> Offset {
 fn looks_up_seconds_by_table_and_rule(rt: HostRuntime) -> Result<(), Fail> {
     let alloc = rt.alloc();
     let root = three_zones(alloc, Resource::Integer(0))?;
-    let info = ZoneInfo64::from_entries(zones_in(alloc, root)?);
+    let info = ZoneInfo64::from_entries(read_tree(alloc, root)?);
     let zone = info.get("America/Los_Angeles").expect(&rt, "a zone");
     let rows = [
         (i64::MIN, false),
@@ -150,7 +153,7 @@ fn place(zone: Zone<'_>, second: i64) -> usize {
 fn places_in_the_table(rt: HostRuntime) -> Result<(), Fail> {
     let alloc = rt.alloc();
     let root = three_zones(alloc, Resource::Integer(0))?;
-    let info = ZoneInfo64::from_entries(zones_in(alloc, root)?);
+    let info = ZoneInfo64::from_entries(read_tree(alloc, root)?);
     let zone = info.get("America/Los_Angeles").expect(&rt, "a zone");
     assert_eq!(rt; place(zone, 1_173_607_199), 0);
     assert_eq!(rt; place(zone, 1_173_607_200), 1);
@@ -180,7 +183,7 @@ fn long_zone(alloc: Global) -> Result<Resource, AllocError> {
 fn looks_up_seconds_in_a_long_table(rt: HostRuntime) -> Result<(), Fail> {
     let alloc = rt.alloc();
     let root = one_zone(alloc, long_zone(alloc)?, ascii(alloc, b"001")?)?;
-    let info = ZoneInfo64::from_entries(zones_in(alloc, root)?);
+    let info = ZoneInfo64::from_entries(read_tree(alloc, root)?);
     let zone = info.get("Test/Plus2").expect(&rt, "a zone");
     let mut sum = 0_u64;
     for k in 0..4_000_000_u32 {
@@ -197,7 +200,7 @@ fn looks_up_seconds_in_a_long_table(rt: HostRuntime) -> Result<(), Fail> {
 fn looks_up_wall_times_by_table_and_rule(rt: HostRuntime) -> Result<(), Fail> {
     let alloc = rt.alloc();
     let root = three_zones(alloc, Resource::Integer(0))?;
-    let info = ZoneInfo64::from_entries(zones_in(alloc, root)?);
+    let info = ZoneInfo64::from_entries(read_tree(alloc, root)?);
     let zone = info.get("America/Los_Angeles").expect(&rt, "a zone");
     let gaps = [(2007, 11, 1_173_607_200), (2025, 9, 1_741_514_400)];
     for (year, day, transition) in gaps {
@@ -228,7 +231,7 @@ fn looks_up_wall_times_by_table_and_rule(rt: HostRuntime) -> Result<(), Fail> {
 fn looks_up_wall_times_far_off(rt: HostRuntime) -> Result<(), Fail> {
     let alloc = rt.alloc();
     let root = three_zones(alloc, Resource::Integer(0))?;
-    let info = ZoneInfo64::from_entries(zones_in(alloc, root)?);
+    let info = ZoneInfo64::from_entries(read_tree(alloc, root)?);
     let zone = info.get("America/Los_Angeles").expect(&rt, "a zone");
     for year in [i32::MIN, 1883, i32::MAX] {
         let told = zone.for_date_time(year, 7, 1, 0, 0, 0);

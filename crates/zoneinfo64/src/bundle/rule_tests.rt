@@ -3,6 +3,8 @@ use super::trees::{
     with_unused, zone,
 };
 use super::*;
+use resb_tree::Resource;
+use sqlite_items::Items;
 use std::test::Fail;
 
 #[test]

@@ -1,8 +1,8 @@
 ghost use Rattle.std.specs.Prelude.{◌≡◌, ◌<◌};
 
 use super::trees::{
-    US, ascii, bundle, empty, integers, is_refused, no_rules, one_zone, pair, table_zone, text,
-    two_zones, with_one_name, zone, zone_with,
+    US, ascii, bundle, empty, integers, is_refused, no_rules, one_zone, pair, read_tree,
+    table_zone, text, two_zones, with_one_name, zone, zone_with,
 };
 use super::*;
 use std::marker::Brand;
@@ -42,7 +42,7 @@ fn reads_one_zone(rt: HostRuntime) -> Result<(), Fail> {
     let alloc = rt.alloc();
     let plus2 = zone_with(alloc, b"links", integers(alloc, &[0, 7])?)?;
     let root = one_zone(alloc, plus2, ascii(alloc, b"001")?)?;
-    let entries = zones_in(alloc, root)?;
+    let entries = read_tree(alloc, root)?;
     assert_eq!(rt; entries.len(), 1);
     let entry = &entries[0];
     assert_eq!(rt; entry.text.as_str(), "Test/Plus2");
@@ -63,7 +63,7 @@ fn reads_signed_offsets(rt: HostRuntime) -> Result<(), Fail> {
     let alloc = rt.alloc();
     let words = [4_294_949_296, 3600, 0, 0];
     let root = one_zone(alloc, zone(alloc, &words)?, ascii(alloc, b"US")?)?;
-    let entries = zones_in(alloc, root)?;
+    let entries = read_tree(alloc, root)?;
     assert_eq!(rt; entries.len(), 1);
     let zone = data(&entries[0]).expect(&rt, "a zone");
     assert_eq!(rt; zone.initial().offset.seconds(), -14_400);
@@ -89,7 +89,7 @@ fn accepts_regions(rt: HostRuntime) -> Result<(), Fail> {
     ];
     for (units, code) in rows {
         let root = one_zone(alloc, zone(alloc, &[0, 0])?, text(alloc, units)?)?;
-        let entries = zones_in(alloc, root)?;
+        let entries = read_tree(alloc, root)?;
         assert_eq!(rt; entries.len(), 1);
         assert_eq!(rt; entries[0].region.raw(), code, "at {units:?}");
     }
@@ -176,7 +176,7 @@ fn reads_a_table(rt: HostRuntime) -> Result<(), Fail> {
     let late = [0, 0xFFFF_FFFF];
     let zone = table_zone(alloc, &early, &middle, &late, &[0, 1, 0, 1, 0])?;
     let root = one_zone(alloc, zone, ascii(alloc, b"001")?)?;
-    let entries = zones_in(alloc, root)?;
+    let entries = read_tree(alloc, root)?;
     assert_eq!(rt; entries.len(), 1);
     let zone = data(&entries[0]).expect(&rt, "a zone");
     assert_eq!(rt; zone.early(), 2);

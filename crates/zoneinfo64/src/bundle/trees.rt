@@ -1,5 +1,8 @@
 //! Trees of zone data for the tests.
 use super::*;
+use resb::write;
+use resb_tree::{Key, Resource};
+use sqlite_items::Items;
 use std::alloc::AllocError;
 
 pub fn integers(alloc: Global, values: &[u32]) -> Result<Resource, AllocError> {
@@ -104,8 +107,18 @@ pub fn two_zones(alloc: Global, first: &[u16], second: &[u16]) -> Result<Resourc
     bundle(alloc, zones, names, regions, no_rules(alloc))
 }
 
+/// The zones of a tree, which is written in words first.
+pub fn read_tree(alloc: Global, root: Resource) -> Result<Vec<Named>, BinaryDeserializerError> {
+    let words = write(alloc, &root)
+        .ok()
+        .ok_or(BinaryDeserializerError::Tree)?;
+    let bundle = Bundle::open(alloc, words.as_slice()).ok();
+    let bundle = bundle.ok_or(BinaryDeserializerError::Tree)?;
+    zones_in(alloc, &bundle.root())
+}
+
 pub fn is_refused(alloc: Global, root: Resource) -> bool {
-    matches!(zones_in(alloc, root), Err(BinaryDeserializerError::Rules))
+    matches!(read_tree(alloc, root), Err(BinaryDeserializerError::Rules))
 }
 
 pub fn empty(alloc: Global) -> Resource {

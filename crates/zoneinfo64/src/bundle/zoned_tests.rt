@@ -1,8 +1,9 @@
-use super::trees::{ascii, one_zone, three_zones, zone};
+use super::trees::{ascii, one_zone, read_tree, three_zones, zone};
 use super::*;
 use crate::chrono::ChronoOffset;
 use crate::zone::Zone;
 use civil::{NaiveDate, NaiveDateTime, NaiveTime};
+use resb_tree::Resource;
 use std::test::Fail;
 use zoned::{Civil, CivilOffset, DateTime, MappedLocalTime, Offset, TimeZone, Utc, placed};
 
@@ -38,7 +39,7 @@ fn mapped(answer: &MappedLocalTime<ChronoOffset<'_>>) -> (u8, i32, i32) {
 fn places_wall_times_in_los_angeles(rt: HostRuntime) -> Result<(), Fail> {
     let alloc = rt.alloc();
     let root = three_zones(alloc, Resource::Integer(0))?;
-    let info = ZoneInfo64::from_entries(zones_in(alloc, root)?);
+    let info = ZoneInfo64::from_entries(read_tree(alloc, root)?);
     let zone = info.get("US/Pacific").ok_or("the zone is found")?;
     let (winter, summer) = (-28_800, -25_200);
     let rows = [
@@ -63,7 +64,7 @@ fn places_wall_times_in_los_angeles(rt: HostRuntime) -> Result<(), Fail> {
 fn tells_the_offsets_of_days(rt: HostRuntime) -> Result<(), Fail> {
     let alloc = rt.alloc();
     let root = three_zones(alloc, Resource::Integer(0))?;
-    let info = ZoneInfo64::from_entries(zones_in(alloc, root)?);
+    let info = ZoneInfo64::from_entries(read_tree(alloc, root)?);
     let zone = info.get("US/Pacific").ok_or("the zone is found")?;
     for (day, offset) in [(9, -28_800), (10, -25_200)] {
         let date = NaiveDate::from_ymd_opt(2025, 3, day).ok_or("a date")?;
@@ -101,7 +102,7 @@ fn cuts_offsets_of_a_day(rt: HostRuntime) -> Result<(), Fail> {
     ];
     for (number, told, fixed) in rows {
         let root = one_zone(alloc, zone(alloc, &[number, 0])?, ascii(alloc, b"001")?)?;
-        let info = ZoneInfo64::from_entries(zones_in(alloc, root)?);
+        let info = ZoneInfo64::from_entries(read_tree(alloc, root)?);
         let zone = info.get("Test/Plus2").ok_or("the zone is found")?;
         let date = NaiveDate::from_ymd_opt(2025, 3, 9).ok_or("a date")?;
         let offset = zone.offset_from_utc_date(&date);
