@@ -240,8 +240,9 @@ fn are_entries(
     have_len(early, middle, late, numbers.len()) && are_below(numbers, pairs.len())
 }
 
-/// The rule that a zone names.
+/// The rule that a zone names. Apart, since many zones name none.
 #[tactic(auto, unfolding(crate::specs::RuleFields::used_rule))]
+#[inline(never)]
 fn used_rule(
     alloc: Global,
     rules: &Rules,

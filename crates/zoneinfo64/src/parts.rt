@@ -96,7 +96,9 @@ fn first_or<'a>(first: &mut Option<ResourceRef<'a>>, value: ResourceRef<'a>)
     }
 }
 
-/// Puts a value at its field, and tells the field that mostly follows in a bundle, whose keys rise.
+/// Puts a value at its field, and tells the field that mostly follows in a bundle, whose keys rise. Apart, so that
+/// the fields stay in memory.
+#[inline(never)]
 fn put<'a>(parts: &mut ZoneParts<'a>, field: Field, value: ResourceRef<'a>) -> Field
     ensures { parts.new ≡ with_field field value.entry parts.old }
 {
