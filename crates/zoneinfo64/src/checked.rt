@@ -6,6 +6,7 @@ ghost use Rattle.zoneinfo64.specs.Inside.Verdicts.{IsVerdict, AreVerdicts};
 
 use crate::zone::{Zone, ZoneInfo64};
 use std::alloc::{AllocError, Global};
+use std::cell::Cell;
 use std::marker::{Brand, Model};
 use std::sync::ledger::{Blank, Ledger};
 use steps::Steps;
@@ -13,11 +14,14 @@ use timeline::{ZoneData, ZoneFault};
 
 /// The zones of a bundle with the checker's verdict on each, seen as their list.
 ///
-/// Each zone is checked when this is made, and never again.
+/// Each zone is checked when this is made, and never again. The zone that was asked for last is looked at first, so that
+/// lines of one zone find it at once.
 #[derive(Drop)]
 pub struct CheckedZones {
     zones: ZoneInfo64,
     verdicts: Vec<Option<ZoneFault>>,
+    /// The place of the zone that was asked for last.
+    last: Cell<usize>,
 }
 
 impl Model for CheckedZones {
@@ -81,7 +85,11 @@ impl CheckedZones {
         for place in 0..zones.len() {
             verdicts.push(verdict_at(&zones, place))?;
         }
-        Ok(CheckedZones { zones, verdicts })
+        Ok(CheckedZones {
+            zones,
+            verdicts,
+            last: Cell::new(0),
+        })
     }
 
     /// The zone of that name, an IANA identifier, or the least law that it breaks; `None` exactly where no name equals it.
@@ -90,7 +98,8 @@ impl CheckedZones {
     pub fn get(&self, iana: &str) -> Option<Result<Zone<'_>, ZoneFault>>
         ensures { IsChecked self.now iana.now result }
     {
-        let zone = self.zones.get(iana)?;
+        let zone = self.zones.get_near(iana, self.last.get())?;
+        self.last.set(zone.own_place());
         match verdict_in(self.verdicts.as_slice(), zone.data_place()) {
             None => Some(Ok(zone)),
             Some(fault) => Some(Err(fault)),

@@ -102,7 +102,20 @@ impl ZoneInfo64 {
         ensures list { IfSome result (λ z. list_of z ≡ self.now) }
         ensures place { IfSome result (λ z. place_named self.now iana.now ≡ Some (place_in z)) }
     {
-        match place_of(self.entries.as_slice(), iana) {
+        self.get_near(iana, self.entries.len() / 2)
+    }
+
+    /// The same, where the name is looked for first at a place. Which place this is changes the time that it takes, and
+    /// nothing else.
+    pub(crate) fn get_near(&self, iana: &str, near: usize) -> Option<Zone<'_>>
+        ensures none { IfNone result (named self.now iana.now ≡ None) }
+        ensures zone { IfSome result
+            (λ z. IsSome (plain_zone z) × (plain_zone z ≡ named self.now iana.now)) }
+        ensures entry { IfSome result (λ z. entry_of z ≡ entry_named self.now iana.now) }
+        ensures list { IfSome result (λ z. list_of z ≡ self.now) }
+        ensures place { IfSome result (λ z. place_named self.now iana.now ≡ Some (place_in z)) }
+    {
+        match place_of(self.entries.as_slice(), iana, near) {
             Some(place) => Some(Zone {
                 info: self,
                 place: place as u16,
@@ -118,20 +131,27 @@ ghost use Rattle.std.specs.String.{string_bytes};
 ghost use Rattle.zoneinfo64.specs.Inside.ZoneList.{AreEntries};
 ghost use Rattle.zoneinfo64.specs.declared.zone.Named.{Named};
 
-/// The place of the entry of that name.
-fn place_of(entries: &[Named], iana: &str) -> Option<usize>
+/// The place of the entry of that name. The first that is looked at is the one at `near`, and then those in the middle of what
+/// is left.
+fn place_of(entries: &[Named], iana: &str, near: usize) -> Option<usize>
     requires { AreEntries entries.now }
     ensures { result
         ≡ position (λ (e : Named). bytes_eq (string_bytes e.text) iana.now) entries.now }
 {
     let mut low = 0;
     let mut high = entries.len();
+    let mut middle = if near < high { near } else { high / 2 };
     while low < high {
-        let middle = low + (high - low) / 2;
         match entries[middle].text.as_str().cmp(iana) {
-            Ordering::Less => low = middle + 1,
+            Ordering::Less => {
+                low = middle + 1;
+                middle = low + (high - low) / 2;
+            }
             Ordering::Equal => return Some(middle),
-            Ordering::Greater => high = middle,
+            Ordering::Greater => {
+                high = middle;
+                middle = low + (high - low) / 2;
+            }
         }
     }
     None
@@ -367,6 +387,11 @@ ghost use Rattle.std.specs.Prelude.{Some};
 impl Zone<'_> {
     ghost use Rattle.zoneinfo64.specs.NamedZone.{zone_at};
     ghost use Rattle.zoneinfo64.specs.ZoneView.{list_of, plain_zone};
+
+    /// Its own place in the bundle.
+    pub(crate) fn own_place(&self) -> usize {
+        usize::from(self.place)
+    }
 
     /// The place at which its data stands: its own, or for an alias that of the zone that it stands for.
     pub(crate) fn data_place(&self) -> usize

@@ -1,4 +1,4 @@
-use Rattle.std.proofs.Common.{◌≡◌, ◌+◌, ◌-◌, ◌/◌, Some, sym, ap, refl, ◌∙◌, arith}
+use Rattle.std.proofs.Common.{◌≡◌, Some, sym, ap, refl, ◌∙◌, arith}
 use Rattle.std.specs.List.{slice_get}
 use Rattle.std.specs.Ordering.{nat_cmp}
 use Rattle.std.specs.declared.cmp.Ordering.TheVariants.{Less, Equal, Greater}
@@ -11,20 +11,22 @@ use Rattle.zoneinfo64.proofs.zone.place_of.Goals as goal
 
 pub loop-low-preserved-in-Less : goal.loop-low-preserved-in-Less
 loop-low-preserved-in-Less c =
-    let middle = c.loop-low.low + (c.loop-low.high - c.loop-low.low) / 2 in
+    let middle = c.loop-low.middle in
     let e = c.index-entries-middle.result in
     let at : slice_get c.args.entries.now middle ≡ Some e = slice_get_read c.args.entries.now _ middle e refl (omega arith) c.index-entries-middle.is in
     let text : c.as_str.result.now ≡ string_bytes e.text = c.as_str.ensures.value ∙ ap (λ (x : Named). string_bytes x.text) (sym c.index-entries-middle.is) in
     let less : slice_cmp nat_cmp (string_bytes e.text) c.args.iana.now ≡ Less = sym (c.in-Less.ensures ∙ ap (λ t. slice_cmp nat_cmp t c.args.iana.now) text) in
     record {
       within = c.loop-low.invariant.within;
+      from = λ h. omega arith;
+      before = λ h. omega arith;
       below = λ k f at_k lt. below-all _ c.requires _ middle e at less k f at_k lt;
       above = c.loop-low.invariant.above;
     }
 
 pub returns-in-Equal : goal.returns-in-Equal
 returns-in-Equal c =
-    let middle = c.loop-low.low + (c.loop-low.high - c.loop-low.low) / 2 in
+    let middle = c.loop-low.middle in
     let e = c.index-entries-middle.result in
     let at : slice_get c.args.entries.now middle ≡ Some e = slice_get_read c.args.entries.now _ middle e refl (omega arith) c.index-entries-middle.is in
     let text : c.as_str.result.now ≡ string_bytes e.text = c.as_str.ensures.value ∙ ap (λ (x : Named). string_bytes x.text) (sym c.index-entries-middle.is) in
@@ -33,13 +35,15 @@ returns-in-Equal c =
 
 pub loop-low-preserved : goal.loop-low-preserved
 loop-low-preserved c =
-    let middle = c.loop-low.low + (c.loop-low.high - c.loop-low.low) / 2 in
+    let middle = c.loop-low.middle in
     let e = c.index-entries-middle.result in
     let at : slice_get c.args.entries.now middle ≡ Some e = slice_get_read c.args.entries.now _ middle e refl (omega arith) c.index-entries-middle.is in
     let text : c.as_str.result.now ≡ string_bytes e.text = c.as_str.ensures.value ∙ ap (λ (x : Named). string_bytes x.text) (sym c.index-entries-middle.is) in
     let greater : slice_cmp nat_cmp (string_bytes e.text) c.args.iana.now ≡ Greater = sym (c.in-Greater.ensures ∙ ap (λ t. slice_cmp nat_cmp t c.args.iana.now) text) in
     record {
       within = omega arith;
+      from = λ h. omega arith;
+      before = λ h. omega arith;
       below = c.loop-low.invariant.below;
       above = λ k f at_k le. above-all _ c.requires _ middle e at greater k f at_k le;
     }

@@ -10,6 +10,8 @@ use Rattle.zoneinfo64.proofs.zone.place_of.Given as goal
 abbrev pub invariant-loop-low : goal.invariant-loop-low
 invariant-loop-low l = record {
   within : l.high ≤ length l.entries;
+  from : l.low < l.high → l.low ≤ l.middle;
+  before : l.low < l.high → l.middle < l.high;
   below : (k : ℕ) (e : Named) → slice_get l.entries k ≡ Some e → k < l.low → slice_cmp nat_cmp (string_bytes e.text) l.iana ≡ Less;
   above : (k : ℕ) (e : Named) → slice_get l.entries k ≡ Some e → l.high ≤ k → slice_cmp nat_cmp (string_bytes e.text) l.iana ≡ Greater;
 }

@@ -1,5 +1,5 @@
 use Rattle.zoneinfo64.proofs.Names.{zone-found, entry-found, place-found, zone-missing}
-use Rattle.zoneinfo64.proofs.zone.ZoneInfo64.get.Goals as goal
+use Rattle.zoneinfo64.proofs.zone.ZoneInfo64.get_near.Goals as goal
 
 pub invariant_of-result : goal.invariant_of-result
 invariant_of-result c =
