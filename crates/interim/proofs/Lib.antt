@@ -6,6 +6,7 @@ pub mod JiffInstants
 pub mod JiffTables
 mod MeaningExamples
 pub mod OneMeaning
+pub mod PlainBytes
 pub mod PlainMeaning
 pub mod PlainWalls
 pub mod PlainReading

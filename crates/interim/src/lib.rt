@@ -8,6 +8,7 @@ mod jiff_backend;
 pub mod laws;
 mod lexer;
 mod parser;
+mod plain;
 mod resolve;
 #[cfg(test)]
 mod tests;

@@ -9,7 +9,7 @@ ghost use Rattle.interim.specs.Meaning.{Aim, Wall, IsDateOn, IsNamed, IsFromWall
 
 use crate::datetime::{Date, DateTime, Refused, Time};
 use crate::errors::{DateError, DateResult};
-use crate::parser::DateParser;
+use crate::parser::parts_of;
 use crate::types::{
     AbsDate, ByName, DateSpec, DateTimeSpec, Dialect, Direction, Interval, TimeSpec,
 };
@@ -400,7 +400,7 @@ pub fn parse_date_string<Dt: DateTime>(s: &str, now: Dt, dialect: Dialect) -> Da
         result }
     ensures zone { IfOk result (λ d. Dt.zone d ≡ Dt.zone now) }
 {
-    let parts = DateParser::new(s).parse(dialect)?;
+    let parts = parts_of(s, dialect)?;
     match resolved(parts, now, dialect) {
         Ok(moment) => Ok(moment),
         Err(refused) => Err(refusal(refused, parts.date)),
