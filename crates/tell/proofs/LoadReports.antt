@@ -1,5 +1,5 @@
 -- What a run over a large input gained.
-use Rattle.std.proofs.Common.{◌≡◌, ℕ, List, [], ◌++◌, Some, refl, ap, ◌∙◌, subst, sym}
+use Rattle.std.proofs.Common.{◌≡◌, ℕ, List, [], ◌++◌, Some, ap, ◌∙◌, subst, sym}
 use Rattle.resb_tree.specs.Header.{tree_of}
 use Rattle.tongues.specs.Languages.{english}
 use Rattle.zoneinfo64.specs.NamedZone.{NamedZone}

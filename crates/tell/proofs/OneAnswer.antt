@@ -1,5 +1,5 @@
 -- A line has one reply, and lines have one report.
-use Rattle.std.proofs.Common.{◌≡◌, ◌⊎◌, inl, inr, ℕ, ◌*◌, ◌/◌, Bool, false, true, MatchOption, List, [], ◌∷◌, ◌++◌, Option, Some, None, Result, Ok, Err, ℤ, refl, sym, ap, ◌∙◌, subst, codes, int_lt, pos, unsigned_abs}
+use Rattle.std.proofs.Common.{◌≡◌, ◌⊎◌, inl, inr, ℕ, ◌*◌, Bool, false, true, MatchOption, List, [], ◌∷◌, ◌++◌, Option, Some, None, Result, Ok, Err, ℤ, refl, sym, ap, ◌∙◌, subst, codes, unsigned_abs}
 use Rattle.std.proofs.lemmas.Option.{none-some, same_Some}
 use Rattle.tongues.specs.Speech.{Speech}
 use Rattle.timeago.specs.Words.{IsWords}
@@ -22,13 +22,13 @@ use Rattle.interim.specs.MeaningLaws.{OneMeaning}
 use Rattle.interim.specs.PlainForm.{IsPlainForm}
 use Rattle.interim.specs.Refusal.{AnswersPhrase, IsRefusedAs, civil_days, civil_seconds}
 use Rattle.interim.specs.Tokens.{phrase_tokens}
-use Rattle.streams.specs.Report.{OneReply, OneReport}
+use Rattle.streams.specs.Report.{OneReply}
 use Rattle.tell.specs.Fields.{LineFields, fields_of}
 use Rattle.tell.specs.Moments.{IsBase, Says}
 use Rattle.tell.specs.Voices.{Voices, voice_for, voices_of, IsToldBy}
-use Rattle.tell.specs.Replies.{Reply, BadLine, UnknownZone, BadBase, Unlawful, Fault, Moment, Tale, IsTale, IsTold, IsMomentOfWall, TellsPhrase, IsReplyOf, IsReplyIn, IsReplyTo, lead}
-use Rattle.tell.specs.ReplyTexts.{IsReply, reply_text}
-use Rattle.tell.specs.Ago.{IsAgoAnswer, IsAgoReply, seconds_of}
+use Rattle.tell.specs.Replies.{Reply, BadLine, UnknownZone, BadBase, Unlawful, Fault, Moment, Tale, IsTale, IsTold, IsMomentOfWall, TellsPhrase, IsReplyOf, IsReplyIn, lead}
+use Rattle.tell.specs.ReplyTexts.{reply_text}
+use Rattle.tell.specs.Ago.{IsAgoReply, seconds_of}
 use Rattle.timeago.specs.Settings.{three_count_settings}
 use Rattle.tell.specs.Promises.{OneReplyToDates, OneAgoAnswer, EveryMeaningIsTold, EveryPlainFormIsTold, IsReplyAt}
 

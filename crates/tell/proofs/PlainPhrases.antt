@@ -1,5 +1,5 @@
 -- In a lawful zone a phrase of the plain form says the moment at which its wall second is placed.
-use Rattle.std.proofs.Common.{◌≡◌, ◌⊎◌, inl, inr, ℕ, ◌/◌, Bool, true, false, List, Option, Some, None, Result, Ok, Err, ℤ, pos, ◌+ℤ◌, ◌-ℤ◌, refl, sym, ap, ◌∙◌, subst, arith, rules, if◌then◌else◌}
+use Rattle.std.proofs.Common.{◌≡◌, inl, inr, ℕ, ◌/◌, Bool, true, false, List, Option, Some, None, Result, Ok, Err, ℤ, pos, ◌+ℤ◌, ◌-ℤ◌, refl, sym, subst, arith, rules, if◌then◌else◌}
 use Rattle.std.proofs.lemmas.Int.{ints}
 use Rattle.std.proofs.lemmas.Option.{some_pair_parts, none-some}
 use Rattle.civil.specs.Clock.{IsWallSecond}
@@ -13,11 +13,9 @@ use Rattle.interim.specs.declared.types.DateSpec.{DateSpec}
 use Rattle.interim.specs.declared.types.DateSpec.TheVariants.{Absolute}
 use Rattle.interim.specs.declared.types.DateTimeSpec.{DateTimeSpec}
 use Rattle.interim.specs.declared.types.Dialect.{Dialect}
-use Rattle.interim.specs.Grammar.{parts_of}
-use Rattle.interim.specs.Meaning.{MeansIn, moment_at}
+use Rattle.interim.specs.Meaning.{MeansIn}
 use Rattle.interim.specs.PlainForm.{IsPlainForm}
 use Rattle.interim.specs.Refusal.{AnswersPhrase, IsRefusedAs, civil_days, civil_seconds, is_within}
-use Rattle.interim.specs.Tokens.{phrase_tokens}
 use Rattle.tell.specs.Moments.{IsBase, Says}
 use Rattle.tell.specs.Inside.LawsBelow.{LawsBelow}
 

@@ -1,9 +1,9 @@
 -- Answers that are counted one by one.
-use Rattle.std.proofs.Common.{◌≡◌, ℕ, zero, suc, ◌+◌, ◌<◌, ◌≤◌, Bool, true, false, cond, List, [], ◌∷◌, ◌++◌, length, take, drop, get_or, nat_eq, refl, sym, ap, ◌∙◌, arith, rules, Some, None}
+use Rattle.std.proofs.Common.{◌≡◌, ℕ, zero, suc, ◌+◌, ◌<◌, ◌≤◌, Bool, true, false, cond, List, [], ◌∷◌, length, take, drop, get_or, nat_eq, refl, ap, ◌∙◌, arith, Some, None}
 use Rattle.std.proofs.lemmas.Bool.Decides.{nat_tests}
 use Rattle.std.proofs.lemmas.List.{length-drop}
 use Rattle.memchr.specs.Find.{IsFirstByte, is_byte}
-use Rattle.streams.specs.Lines.{ended, ended_after}
+use Rattle.streams.specs.Lines.{ended}
 use Rattle.streams.proofs.LineCuts.{first_cut, none_cut, ended_after-append, ended_after-none, begun_after-none}
 use Rattle.tell.specs.Load.{before_tab}
 

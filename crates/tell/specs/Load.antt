@@ -1,5 +1,5 @@
 -- A large input from a number, and what its answers come to (docs/ARCHITECTURE.md, "Large inputs").
-use Rattle.std.specs.Prelude.{◌≡◌, ℕ, zero, suc, ◌+◌, ◌*◌, ◌/◌, ◌%◌, ◌==◌, Bool, true, false, if◌then◌else◌, List, [], ◌∷◌, ◌++◌, None, ℤ, pos, ◌-ℤ◌, codes}
+use Rattle.std.specs.Prelude.{◌≡◌, ℕ, zero, suc, ◌+◌, ◌*◌, ◌/◌, ◌%◌, ◌==◌, Bool, false, if◌then◌else◌, List, [], ◌∷◌, ◌++◌, None, ℤ, pos, ◌-ℤ◌, codes}
 use Rattle.std.specs.Fmt.{decimal}
 use Rattle.tongues.specs.Languages.{english}
 use Rattle.timeline.specs.Zone.{PlainZone}

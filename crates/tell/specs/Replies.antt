@@ -1,5 +1,5 @@
 -- What is replied to a line of dates (docs/ARCHITECTURE.md, "Answers").
-use Rattle.std.specs.Prelude.{◌≡◌, ◌⊎◌, ℕ, ◌/◌, Bool, List, Ok, Err, Option, MatchOption, int_lt, ℤ, pos, ◌+ℤ◌, ◌-ℤ◌, ◌*ℤ◌, unsigned_abs}
+use Rattle.std.specs.Prelude.{◌≡◌, ◌⊎◌, ℕ, ◌/◌, Bool, List, Ok, Err, MatchOption, int_lt, ℤ, pos, ◌+ℤ◌, ◌-ℤ◌, ◌*ℤ◌, unsigned_abs}
 use Rattle.timeline.specs.Zone.{PlainZone}
 use Rattle.zoneinfo64.specs.NamedZone.{NamedZone, named}
 use Rattle.timeline.specs.Timeline.{offset_at}

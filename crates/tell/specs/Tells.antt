@@ -1,5 +1,5 @@
 -- What `tell` and `tell_in` answer.
-use Rattle.std.specs.Prelude.{◌≡◌, Result, Ok, Err, Option, Some, None, List, ℕ}
+use Rattle.std.specs.Prelude.{Result, Ok, Err, Option, Some, None, List}
 use Rattle.std.specs.String.{string_bytes}
 use Rattle.zoneinfo64.specs.NamedZone.{NamedZone}
 use Rattle.tell.specs.declared.told.Told.{Told}

@@ -7,6 +7,7 @@ mod bundle;
 mod engine;
 mod fields;
 mod find;
+mod front;
 mod large;
 pub mod laws;
 mod lead;

@@ -9,10 +9,11 @@ ghost use Rattle.tell.specs.Replies.{Reply, Unlawful};
 ghost use Rattle.tell.specs.ReplyTexts.{IsReply, reply_text};
 ghost use Rattle.tell.specs.Voices.{voices_of};
 ghost use Rattle.tell.specs.Inside.MomentView.{IsInCalendar, refusal};
-ghost use Rattle.tell.specs.Inside.ReplyParts.{tabbed_count, tabbed_side, front_text, IsMomentText, IsAnswer};
+ghost use Rattle.tell.specs.Inside.ReplyParts.{IsMomentText, IsAnswer};
 
 use crate::fields::split_fields;
 use crate::find::find;
+use crate::front::push_front;
 use crate::lead::lead_from;
 use crate::moment::Moment;
 use crate::teller::Teller;
@@ -22,58 +23,12 @@ use std::alloc::AllocError;
 use std::fmt::Write;
 use zoneinfo64::{CheckedZones, ZoneFault};
 
-// Appends a number.
-#[inline(always)]
-fn push_number(out: &mut String, number: i64) -> Result<(), AllocError>
-    ensures { OnOk result (string_bytes out.new ≡ string_bytes out.old ++ signed_decimal number) }
-{
-    let mut buffer = Buffer::new();
-    out.push_str(buffer.format(number))?;
-    Ok(())
-}
-
 // Appends a count.
 fn push_count(out: &mut String, count: u64) -> Result<(), AllocError>
     ensures { OnOk result (string_bytes out.new ≡ string_bytes out.old ++ decimal count) }
 {
     let mut buffer = Buffer::new();
     out.push_str(buffer.format(count))?;
-    Ok(())
-}
-
-// Appends a count between two tabs; most are 0.
-#[inline(always)]
-fn push_tabbed(out: &mut String, count: u64) -> Result<(), AllocError>
-    ensures { OnOk result (string_bytes out.new ≡ string_bytes out.old ++ tabbed_count count) }
-{
-    if count == 0 {
-        out.push_str("\t0\t")?;
-        return Ok(());
-    }
-    out.push('\t')?;
-    push_count(out, count)?;
-    out.push('\t')?;
-    Ok(())
-}
-
-// On which side of the base a moment is, between two tabs.
-#[inline(always)]
-fn tabbed_side(ahead: bool) -> &'static str
-    ensures { result.now ≡ tabbed_side ahead }
-{
-    if ahead { "\t+\t" } else { "\t-\t" }
-}
-
-// Appends what stands before the words of a distance.
-#[inline(never)]
-fn push_front(out: &mut String, moment: &Moment, ahead: bool) -> Result<(), AllocError>
-    ensures { OnOk result (string_bytes out.new ≡ string_bytes out.old
-        ++ front_text moment.now.second moment.now.nanos moment.now.offset ahead) }
-{
-    push_number(out, moment.second)?;
-    push_tabbed(out, u64::from(moment.nanos / 1000))?;
-    push_number(out, i64::from(moment.offset))?;
-    out.push_str(tabbed_side(ahead))?;
     Ok(())
 }
 

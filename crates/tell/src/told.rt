@@ -147,7 +147,8 @@ fn tell_moment<L: Language>(
     requires base { IsBase base }
     requires inside { IsInCalendar moment }
     ensures { (z : PlainZone) → offset ≡ offset_at z moment.second → IfOk result (λ told.
-        IsTale z (voices_by L.speech past.now ahead.now) base moment.second moment.nanos (tale_of told)) }
+        IsTale z (voices_by L.speech past.now ahead.now) base moment.second moment.nanos
+        (tale_of told)) }
 {
     let lead = lead_from(base, moment.second, moment.nanos);
     let text = words(alloc, lead, past, ahead)?;

@@ -2,7 +2,7 @@
 use Rattle.timeline.specs.Promises.{OffsetsAreSmall}
 use Rattle.zoneinfo64.specs.Promises.{ZonesPlaceAlike}
 use Rattle.interim.specs.Laws.{PlainFormsAreRead}
-use Rattle.interim.specs.MeaningLaws.{PlainFormsAreInside, PlainFormsMean, SoundMeaning}
+use Rattle.interim.specs.MeaningLaws.{PlainFormsAreInside, PlainFormsMean}
 
 -- what the crates below prove of phrases and of zones
 pub record LawsBelow : Type 0 where

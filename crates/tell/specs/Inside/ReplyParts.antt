@@ -9,14 +9,6 @@ use Rattle.tell.specs.Voices.{Voices}
 use Rattle.tell.specs.Replies.{Reply, Tale, IsTale, IsReplyTo}
 use Rattle.tell.specs.ReplyTexts.{reply_text, side_text, tale_text}
 
--- a count between two tabs
-abbrev pub tabbed_count : ℕ → List ℕ
-tabbed_count count = codes "\t" ++ decimal count ++ codes "\t"
-
--- the side of the base between two tabs
-abbrev pub tabbed_side : Bool → List ℕ
-tabbed_side ahead = codes "\t" ++ side_text ahead ++ codes "\t"
-
 -- what stands before the words of a distance
 abbrev pub front_text : ℤ → ℕ → ℤ → Bool → List ℕ
 front_text second nanos offset ahead =

@@ -1,4 +1,4 @@
-use Rattle.std.proofs.Common.{◌≡◌, ◌+◌, ◌<◌, ◌≤◌, ◌-ℤ◌, ℤ, pos, neg_ℤ, length, get_or, refl, sym, ap, ◌∙◌, arith, rules, w64, to_z, of_z}
+use Rattle.std.proofs.Common.{◌≡◌, ◌+◌, ◌-ℤ◌, pos, neg_ℤ, arith, rules, w64, to_z, of_z}
 use Rattle.std.proofs.lemmas.Str.{IsCharBoundary-after_ascii}
 use Rattle.std.proofs.lemmas.Grind.{common_steps}
 use Rattle.tell.proofs.FieldCuts.{base_cut-signed}

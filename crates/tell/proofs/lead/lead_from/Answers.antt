@@ -1,4 +1,4 @@
-use Rattle.std.proofs.Common.{◌≡◌, ◌∙◌, ap, ℤ, int_lt, pos, ◌+ℤ◌, ◌*ℤ◌, unsigned_abs, to_z-of_z, FitsSigned, w64, rules}
+use Rattle.std.proofs.Common.{◌∙◌, ap, ℤ, int_lt, pos, ◌+ℤ◌, ◌*ℤ◌, unsigned_abs, to_z-of_z, FitsSigned, w64, rules}
 use Rattle.tell.proofs.MomentTexts.{lead_carried}
 use Rattle.tell.proofs.lead.lead_from.Goals as goal
 

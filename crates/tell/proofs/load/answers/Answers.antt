@@ -1,4 +1,3 @@
-use Rattle.std.proofs.Common.{refl}
 use Rattle.tell.proofs.LoadReports.{load_reported}
 use Rattle.tell.proofs.load.answers.Goals as goal
 

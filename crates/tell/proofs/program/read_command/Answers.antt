@@ -1,4 +1,4 @@
-use Rattle.std.proofs.Common.{◌≡◌, string_bytes, sym, ◌∙◌}
+use Rattle.std.proofs.Common.{string_bytes, sym, ◌∙◌}
 use Rattle.tell.proofs.RunLemmas.{two_are, three_are, none_are_few, none_are_many}
 use Rattle.tell.proofs.program.read_command.Goals as goal
 

@@ -1,4 +1,4 @@
-use Rattle.std.proofs.Common.{◌≡◌, ℕ, List, Bool, true, false, Result, Ok, Err, OnOk, refl, sym, ap, ◌∙◌, subst}
+use Rattle.std.proofs.Common.{◌≡◌, ℕ, List, Bool, true, false, Result, Ok, Err, OnOk, sym, ap, ◌∙◌, subst}
 use Rattle.std.specs.String.{string_bytes}
 use Rattle.std.specs.declared.alloc.AllocError.{AllocError}
 use Rattle.timeago.specs.Formatters.{settings_of, language_of}
@@ -6,7 +6,7 @@ use Rattle.std.specs.Duration.{as_nanos}
 use Rattle.tongues.specs.Any.{any_speech}
 use Rattle.tongues.specs.declared.any.AnyLanguage.{AnyLanguage}
 use Rattle.timeago.specs.Appended.{Adds}
-use Rattle.timeago.specs.Settings.{Settings, default_settings, ahead_settings}
+use Rattle.timeago.specs.Settings.{Settings}
 use Rattle.timeago.specs.Words.{IsWords}
 use Rattle.tell.specs.Voices.{IsToldBy, voice_for, voices_of}
 use Rattle.tell.proofs.teller.Teller.push_told.Goals as goal
