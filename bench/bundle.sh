@@ -104,7 +104,7 @@ fi
 if command -v python3 >/dev/null; then
     python3 "$top/bench/many_zones.py" 20000 >"$work/many.res" || exit 1
     measure "20,000 zones" "$work/many.res" 0 $((20 * most))
-    for kind in shared equal-keys; do
+    for kind in shared equal-keys chains; do
         python3 "$top/bench/hostile.py" "$kind" >"$work/$kind.res" || exit 1
         measure "hostile, $kind" "$work/$kind.res" 3
     done

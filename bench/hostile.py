@@ -4,8 +4,11 @@
     bench/hostile.py shared       two arrays of half a million items; each of the first stands for the second, so that
                                   the tree would have 2 to the 38th arrays
     bench/hostile.py equal-keys   a table of half a million entries, the first and the last of which have equal keys
+    bench/hostile.py chains       an array of a million items, each of which stands for the same chain of six tables, one
+                                  inside the other; each has one entry, with the empty key, and names another place of it
 
-Nothing else is wrong with either: with the weight of the first, and with those two keys of the second.
+Nothing else is wrong with the first two: with the weight of the first, and with those two keys of the second. The third is a
+tree, of 7.3 million resources, but it has no zones.
 """
 import array
 import sys
@@ -53,7 +56,24 @@ def equal_keys():
     return [4 << 28 | FIRST] + index(end, end) + words
 
 
-body = {"shared": shared, "equal-keys": equal_keys}[sys.argv[1]]()
+def chains():
+    """The places of the empty key lie 256 bytes apart, so that a reader which keeps keys by the low bits of their places
+    keeps none of them."""
+    tables = 6
+    keys = [0] * (64 * tables)
+    chain_at = FIRST + len(keys)
+    chain = []
+    for n in range(tables):
+        place = 4 * FIRST + 256 * n
+        inner = 2 << 28 | chain_at + 2 * (n + 1) if n + 1 < tables else 7 << 28
+        chain += [1 | place << 16, inner]
+    array_at = chain_at + len(chain)
+    count = WORDS - len(HEADER) - array_at - 1
+    words = keys + chain + [count] + [2 << 28 | chain_at] * count
+    return [8 << 28 | array_at] + index(chain_at, FIRST + len(words)) + words
+
+
+body = {"shared": shared, "equal-keys": equal_keys, "chains": chains}[sys.argv[1]]()
 words = array.array("I", HEADER + body)
 assert words.itemsize == 4 and len(words) <= WORDS
 if sys.byteorder == "big":
