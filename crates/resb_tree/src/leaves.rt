@@ -98,9 +98,24 @@ fn zero_unit(body: BodyWords<'_>, v: usize) -> Option<usize>
     ensures low { IfSome result (λ stop. v ≤ stop) }
     ensures high { IfSome result (λ stop. stop < area_len (told body.entry)) }
 {
-    for at in v..area_len(body) {
-        if area_unit(body, at) == 0 {
-            return Some(at);
+    let len = area_len(body);
+    let mut at = v;
+    while at < len {
+        if at % 2 == 0 && len - at >= 2 {
+            // a whole word
+            let first = at / 2 * 2;
+            if area_unit(body, first) == 0 {
+                return Some(first);
+            }
+            if area_unit(body, first + 1) == 0 {
+                return Some(first + 1);
+            }
+            at = first + 2;
+        } else {
+            if area_unit(body, at) == 0 {
+                return Some(at);
+            }
+            at += 1;
         }
     }
     None
