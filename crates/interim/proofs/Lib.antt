@@ -8,6 +8,7 @@ mod MeaningExamples
 pub mod OneMeaning
 pub mod PlainBytes
 pub mod PlainMeaning
+pub mod PlainShapes
 pub mod PlainWalls
 pub mod PlainReading
 pub mod SomeMeaning

@@ -1,8 +1,8 @@
 -- The tokens of a phrase whose bytes are a date with dashes and a clock time with a colon.
-use Rattle.std.proofs.Common.{◌≡◌, ℕ, ◌≤◌, List, [], ◌∷◌, ◌++◌, ◌≢◌, eqb, take, drop, codes, Some, None, Bool, true, false, if◌then◌else◌, refl, sym, ap, ◌∙◌, arith}
+use Rattle.std.proofs.Common.{◌≡◌, ℕ, ◌≤◌, List, [], ◌∷◌, ◌++◌, ◌≢◌, eqb, take, drop, None, Bool, true, false, if◌then◌else◌, refl, sym, ap, ◌∙◌, arith}
 use Rattle.std.proofs.lemmas.Bool.Decides.{nat_tests}
 use Rattle.std.specs.List.{prefix_len}
-use Rattle.interim.specs.Tokens.{Kind, Number, Dash, Colon, Word, is_blank, is_digit, is_letter, decimal_from, more, kind_of, split_at, tokens, tokens_of, phrase_tokens}
+use Rattle.interim.specs.Tokens.{Number, Dash, Colon, is_blank, is_digit, is_letter, decimal_from, more, kind_of, split_at, tokens, tokens_of, phrase_tokens}
 use Rattle.interim.specs.PlainForm.{kinds, Dashed, Minutes, PlainPhrase, spelled, spelled_date, spelled_t, spelled_time}
 use Rattle.interim.specs.declared.types.Dialect.{Dialect}
 use Rattle.interim.specs.Laws.{IsReadAsNamed}
@@ -10,10 +10,10 @@ use Rattle.interim.specs.Parts.{date_of, clock}
 use Rattle.interim.proofs.PlainReading.{form_read}
 use Rattle.interim.proofs.Tail.{tokens_split}
 
-digit_is : (b : ℕ) → 48 ≤ b → b ≤ 57 → is_digit b ≡ true
+pub digit_is : (b : ℕ) → 48 ≤ b → b ≤ 57 → is_digit b ≡ true
 digit_is b low high = grind (arith, nat_tests)
 
-digit_no_blank : (b : ℕ) → is_digit b ≡ true → is_blank b ≡ false
+pub digit_no_blank : (b : ℕ) → is_digit b ≡ true → is_blank b ≡ false
 digit_no_blank b e = grind (arith, nat_tests)
 
 digit_no_letter : (b : ℕ) → is_digit b ≡ true → is_letter b ≡ false
@@ -31,7 +31,7 @@ pub pair_is : (a b : ℕ) → 48 ≤ a → a ≤ 57 → 48 ≤ b → b ≤ 57 �
 pair_is a b low high low' high' = (digit_is a low high, digit_is b low' high')
 
 -- the kind of the token at the front, and of those behind it
-first_kind : (total b : ℕ) (bs : List ℕ) → is_blank b ≡ false → kinds (tokens_of total (b ∷ bs)) ≡ kind_of b (b ∷ take (more b bs) bs) ∷ kinds (tokens_of total (drop (more b bs) bs))
+pub first_kind : (total b : ℕ) (bs : List ℕ) → is_blank b ≡ false → kinds (tokens_of total (b ∷ bs)) ≡ kind_of b (b ∷ take (more b bs) bs) ∷ kinds (tokens_of total (drop (more b bs) bs))
 unfolding split_at
 first_kind total b bs e = rw (tokens_split total (b ∷ bs), e) refl
 
@@ -54,6 +54,9 @@ colon_first : (total : ℕ) (bs : List ℕ) → kinds (tokens_of total (58 ∷ b
 unfolding more kind_of
 colon_first total bs = first_kind total 58 bs refl
 
+pub blank_first : (total : ℕ) (bs : List ℕ) → tokens_of total (32 ∷ bs) ≡ tokens_of total bs
+blank_first total bs = tokens_split total (32 ∷ bs) ∙ sym (tokens_split total bs)
+
 -- a T or a blank
 abbrev pub between : Bool → ℕ
 between has_t = if has_t then 84 else 32
@@ -70,7 +73,7 @@ between_there b h = there_case b (eqb b 32) refl h
 between_first : (has_t : Bool) (total b : ℕ) (bs : List ℕ) → is_digit b ≡ true → kinds (tokens_of total (between has_t ∷ b ∷ bs)) ≡ spelled_t has_t ++ kinds (tokens_of total (b ∷ bs))
 unfolding more kind_of
 between_first true total b bs e = first_kind total 84 (b ∷ bs) refl ∙ rw (digit_no_letter b e) refl
-between_first false total b bs e = ap kinds (tokens_split total (32 ∷ b ∷ bs) ∙ sym (tokens_split total (b ∷ bs)))
+between_first false total b bs e = ap kinds (blank_first total (b ∷ bs))
 
 between_no_digit : (has_t : Bool) (bs : List ℕ) → prefix_len is_digit (between has_t ∷ bs) ≡ 0
 between_no_digit true bs = refl

@@ -64,7 +64,7 @@ slashed_read a b y ks ts Uk date e = cc
 slashed_read a b y ks ts Us date e = cc
 
 -- a word of which a rule says something is not a word of which it says nothing
-apart : {A : Type 0} (rule : List ℕ → Option A) (word text : List ℕ) (a : A) → (let none : Option A = None in rule text ≡ none) → rule word ≡ Some a → bytes_eq word text ≡ false
+pub apart : {A : Type 0} (rule : List ℕ → Option A) (word text : List ℕ) (a : A) → (let none : Option A = None in rule text ≡ none) → rule word ≡ Some a → bytes_eq word text ≡ false
 apart rule word text a nothing something =
     false_from_ne_true (bytes_eq word text) (λ same. let e : word ≡ text = (bytes_eq-Decides word text).0 same in cc)
 

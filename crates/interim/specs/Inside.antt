@@ -2,4 +2,5 @@
 pub mod JiffBounds
 pub mod Nanoseconds
 pub mod Orders
+pub mod ReadAs
 pub mod Seen

@@ -85,7 +85,7 @@ fn month_head(tokens: &mut Lexer<'_>, month: u32, direction: Direction) -> DateR
 }
 
 // So many of a unit.
-fn times(unit: Interval, count: i32) -> Interval
+pub fn times(unit: Interval, count: i32) -> Interval
     requires unit { unsigned_abs (count_of unit) ≤ 3600 }
     requires count { unsigned_abs count ≤ 65535 }
     ensures { result ≡ scaled unit count }

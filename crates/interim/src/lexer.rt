@@ -48,7 +48,7 @@ enum Front {
 }
 
 // Up to four digits as a number, and how many bytes they have after the first.
-fn number(first: u8, after: &[u8]) -> (u16, usize)
+pub fn number(first: u8, after: &[u8]) -> (u16, usize)
     requires { IsTrue (is_digit first) }
     ensures value { result.0 ≡ decimal_from 0 (first ∷ take result.1 after.now) }
     ensures len { result.1 ≡ min 3 (run_len is_digit after.now) }
@@ -62,7 +62,7 @@ fn number(first: u8, after: &[u8]) -> (u16, usize)
     (value, len)
 }
 
-fn letters(bytes: &[u8]) -> usize
+pub fn letters(bytes: &[u8]) -> usize
     ensures { result ≡ run_len is_letter bytes.now }
 {
     bytes

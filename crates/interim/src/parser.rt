@@ -5,7 +5,7 @@ ghost use Rattle.interim.specs.Tokens.{phrase_tokens};
 use crate::date_part::date_part;
 use crate::errors::{DateError, DateResult};
 use crate::lexer::Lexer;
-use crate::plain::dashed;
+use crate::plain::plain;
 use crate::time_part::{ClockFront, time_part};
 use crate::types::{DateSpec, DateTimeSpec, Dialect, Interval, TimeSpec};
 use std::marker::Model;
@@ -61,16 +61,13 @@ impl<'a> DateParser<'a> {
     }
 }
 
-/// The parts of a phrase, or its first fault, as the parser answers. A phrase as `2018-03-23 20:00` is read at once.
+/// The parts of a phrase, or its first fault, as the parser answers; a phrase of a plain shape is read without tokens.
 #[inline(always)]
 pub fn parts_of(text: &str, dialect: Dialect) -> DateResult<DateTimeSpec>
     ensures { result ≡ parts_of dialect (phrase_tokens text.now) }
 {
-    match dashed(text.as_bytes()) {
-        Some((date, time)) => Ok(DateTimeSpec {
-            date: Some(DateSpec::Absolute(date)),
-            time: Some(time),
-        }),
+    match plain(text.as_bytes()) {
+        Some(parts) => Ok(parts),
         None => DateParser::new(text).parse(dialect),
     }
 }

@@ -1,9 +1,16 @@
-//! Phrases of one shape, of which no token is made.
-ghost use Rattle.std.specs.Prelude.{◌≡◌, ◌<◌, [], ◌∷◌, IsTrue, IfSome};
+//! Phrases of three plain shapes, of which no token is made.
+ghost use Rattle.std.specs.Prelude.{◌≡◌, ◌<◌, [], ◌∷◌, Some, None, IsTrue, IfSome};
+ghost use Rattle.interim.specs.Inside.ReadAs.{IsReadAs, half_text};
 ghost use Rattle.interim.specs.Laws.{IsReadAsNamed};
 ghost use Rattle.interim.specs.Tokens.{is_digit, decimal_from};
 
-use crate::types::{AbsDate, Dialect, TimeSpec};
+use crate::date_part::times;
+use crate::lexer::{letters, number};
+use crate::time_part::shifted;
+use crate::types::{
+    AbsDate, ByName, DateSpec, DateTimeSpec, Dialect, Direction, Interval, TimeSpec,
+};
+use crate::words::{Half, month_of, unit_of, weekday_of};
 
 // The number that two digits write.
 #[inline(always)]
@@ -16,9 +23,9 @@ fn two(a: u8, b: u8) -> u32
     10 * u32::from(a - b'0') + u32::from(b - b'0')
 }
 
-/// The date and the clock time of a phrase as `2018-03-23 20:00`, with the same numbers of digits; `None` says nothing.
+// The date and the clock time of a phrase as `2018-03-23 20:00`, with as many digits; `None` says nothing.
 #[inline(always)]
-pub fn dashed(phrase: &[u8]) -> Option<(AbsDate, TimeSpec)>
+fn dashed(phrase: &[u8]) -> Option<(AbsDate, TimeSpec)>
     ensures { IfSome result (λ p. (dialect : Dialect) → IsReadAsNamed dialect phrase.now p.0 p.1) }
 {
     let [
@@ -48,4 +55,82 @@ pub fn dashed(phrase: &[u8]) -> Option<(AbsDate, TimeSpec)>
         day: two(d1, d2),
     };
     Some((date, TimeSpec::new(two(h1, h2), two(n1, n2), 0, 0)))
+}
+
+// The interval of a phrase as `2 days ago`; `None` says nothing.
+#[inline(always)]
+fn back(phrase: &[u8]) -> Option<Interval>
+    ensures { IfSome result (λ interval.
+        IsReadAs phrase.now (Some (DateSpec.Relative interval)) None) }
+{
+    let [first @ b'0'..=b'9', after @ ..] = phrase else {
+        return None;
+    };
+    let (n, len) = number(*first, after);
+    let [b' ', rest @ ..] = &after[len..] else {
+        return None;
+    };
+    let len = letters(rest);
+    let [b' ', b'a', b'g', b'o'] = &rest[len..] else {
+        return None;
+    };
+    let word = &rest[..len];
+    if month_of(word).is_some() {
+        return None;
+    }
+    let unit = unit_of(word)?;
+    Some(times(unit, -i32::from(n)))
+}
+
+// The half of the day that is written as `am` or `pm`; `None` says nothing.
+#[inline(always)]
+fn half(text: &[u8]) -> Option<Half>
+    ensures { IfSome result (λ half. text.now ≡ half_text half) }
+{
+    match text {
+        [b'a', b'm'] => Some(Half::Am),
+        [b'p', b'm'] => Some(Half::Pm),
+        _ => None,
+    }
+}
+
+// The weekday and the clock time of a phrase as `friday 8pm`; `None` says nothing.
+#[inline(always)]
+fn weekday(phrase: &[u8]) -> Option<(u8, TimeSpec)>
+    ensures { IfSome result (λ p.
+        IsReadAs phrase.now (Some (DateSpec.FromName (ByName.WeekDay p.0) Direction.Here)) (Some p.1)) }
+{
+    let len = letters(phrase);
+    let weekday = weekday_of(&phrase[..len])?;
+    let [b' ', first @ b'0'..=b'9', after @ ..] = &phrase[len..] else {
+        return None;
+    };
+    let (hour, len) = number(*first, after);
+    let half = half(&after[len..])?;
+    Some((weekday, TimeSpec::new(shifted(half, hour), 0, 0, 0)))
+}
+
+/// The parts of a phrase as `2018-03-23 20:00`, `2 days ago` or `friday 8pm`; `None` says nothing of the phrase.
+#[inline(always)]
+pub fn plain(phrase: &[u8]) -> Option<DateTimeSpec>
+    ensures { IfSome result (λ parts. IsReadAs phrase.now parts.date parts.time) }
+{
+    if let Some((date, time)) = dashed(phrase) {
+        return Some(DateTimeSpec {
+            date: Some(DateSpec::Absolute(date)),
+            time: Some(time),
+        });
+    }
+    if let Some(interval) = back(phrase) {
+        return Some(DateTimeSpec {
+            date: Some(DateSpec::Relative(interval)),
+            time: None,
+        });
+    }
+    let (day, time) = weekday(phrase)?;
+    let date = DateSpec::FromName(ByName::WeekDay(day), Direction::Here);
+    Some(DateTimeSpec {
+        date: Some(date),
+        time: Some(time),
+    })
 }
