@@ -62,7 +62,8 @@ fn items_left(
     requires { from + count ≤ items_end form checker.old }
     ensures same { checker.new ≡ checker.old }
     ensures value { Gives (λ x. x) result
-        (items_left (left_behind checker.old levels) (run (item_in form checker.old) from count) limit) }
+        (items_left (left_behind checker.old levels)
+        (run (item_in form checker.old) from count) limit) }
 {
     let body = checker.body();
     let mut left = limit;
@@ -186,7 +187,8 @@ fn item_left(
 
 /// Whether the root item of a body denotes a tree of at most 8 levels that is not too heavy.
 pub fn check_root(alloc: Global, body: BodyWords<'_>, limit: usize) -> Result<(), ResbError>
-    ensures value { Gives (λ _. root_there (told body.entry)) result (denoted (told body.entry) limit) }
+    ensures value { let b = told body.entry in
+        Gives (λ _. root_there b) result (denoted b limit) }
     ensures root { IfOk result (λ _. IsRoot (told body.entry)) }
 {
     let mut checker = Checker::new(alloc, body)?;

@@ -39,7 +39,7 @@ pub fn key_is(body: &BodyWords<'_>, place: usize, bytes: &[u8]) -> bool
 fn same_key(body: BodyWords<'_>, one: usize, other: usize) -> bool
     requires one { IsKey (told body) one }
     requires other { IsKey (told body) other }
-    ensures { result ≡ bytes_eq (key_there (told body.entry) one) (key_there (told body.entry) other) }
+    ensures { let b = told body.entry in result ≡ bytes_eq (key_there b one) (key_there b other) }
 {
     let mut at = one;
     let mut there = other;
@@ -59,7 +59,7 @@ fn same_key(body: BodyWords<'_>, one: usize, other: usize) -> bool
 /// How many bytes the key at a place has.
 fn key_len(body: BodyWords<'_>, place: usize) -> usize
     requires { IsKey (told body) place }
-    ensures value { run (byte_in body.entry.words.now) place result ≡ key_there (told body.entry) place }
+    ensures value { let b = told body.entry in run (byte_in b.words) place result ≡ key_there b place }
     ensures within { place + result ≤ 4 * body.entry.keys_end }
 {
     let mut at = place;
@@ -82,8 +82,8 @@ fn stands_later(body: BodyWords<'_>, form: TableForm, v: usize, count: usize, k:
     requires lie { EntriesLie form (told body) v count }
     requires keys { HaveKeys (told body) form v count }
     requires within { k < count }
-    ensures { let entry = entry_in form (told body.entry) v count in result ≡ stands_in
-        (key_there (told body.entry) (entry k).0) (keys_there (told body.entry) (run entry (k + 1) (count - (k + 1)))) }
+    ensures { let b = told body.entry in let entry = entry_in form b v count in result ≡
+        stands_in (key_there b (entry k).0) (keys_there b (run entry (k + 1) (count - (k + 1)))) }
 {
     let (place, _) = entry_at(body, form, v, count, k);
     for other in k + 1..count {

@@ -16,6 +16,7 @@ mod leaves;
 mod places;
 mod reader;
 mod reading;
+mod refs;
 mod resource;
 #[cfg(test)]
 mod tests;
@@ -24,8 +25,9 @@ mod tests_in_place;
 mod words;
 
 pub use error::ResbError;
-pub use in_place::{Bundle, BytesRef, EntriesRef, ItemsRef, KeyRef, ResourceRef, TextRef};
+pub use in_place::{Bundle, ResourceRef};
 pub use key::Key;
 pub use keys::are_distinct;
 pub use reading::read;
+pub use refs::{BytesRef, EntriesRef, ItemsRef, KeyRef, TextRef};
 pub use resource::Resource;

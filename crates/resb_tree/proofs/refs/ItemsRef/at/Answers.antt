@@ -1,7 +1,7 @@
 use Rattle.std.proofs.Common.{◌≡◌, length, arith}
 use Rattle.resb_tree.specs.Forms.{told}
 use Rattle.resb_tree.proofs.Parts.{item_there, items_there_length}
-use Rattle.resb_tree.proofs.in_place.ItemsRef.at.Goals as goal
+use Rattle.resb_tree.proofs.refs.ItemsRef.at.Goals as goal
 
 pub item_behind-requires : goal.item_behind-requires
 item_behind-requires c =

@@ -1,7 +1,7 @@
 use Rattle.std.proofs.Common.{sym}
 use Rattle.resb_tree.specs.Forms.{told}
 use Rattle.resb_tree.proofs.Parts.{items_there_length}
-use Rattle.resb_tree.proofs.in_place.ItemsRef.len.Goals as goal
+use Rattle.resb_tree.proofs.refs.ItemsRef.len.Goals as goal
 
 pub returns : goal.returns
 returns c =

@@ -1,7 +1,7 @@
 use Rattle.std.proofs.Common.{sym}
 use Rattle.resb_tree.specs.Words.{unit_in}
 use Rattle.resb_tree.proofs.Runs.{length-run}
-use Rattle.resb_tree.proofs.in_place.TextRef.len.Goals as goal
+use Rattle.resb_tree.proofs.refs.TextRef.len.Goals as goal
 
 pub returns : goal.returns
 returns c =

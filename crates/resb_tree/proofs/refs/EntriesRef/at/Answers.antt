@@ -1,7 +1,7 @@
 use Rattle.std.proofs.Common.{◌≡◌, length, arith}
 use Rattle.resb_tree.specs.Forms.{told}
 use Rattle.resb_tree.proofs.Parts.{entry_there, entries_there_length}
-use Rattle.resb_tree.proofs.in_place.EntriesRef.at.Goals as goal
+use Rattle.resb_tree.proofs.refs.EntriesRef.at.Goals as goal
 
 pub entry_at-key-requires-clause-within : goal.entry_at-key-requires-clause-within
 entry_at-key-requires-clause-within c =

@@ -3,7 +3,7 @@ use Rattle.std.specs.Str.{bytes_eq}
 use Rattle.resb_tree.specs.Forms.{told, entry_in}
 use Rattle.resb_tree.specs.Inside.Places.{key_there, tree_there, entries_there}
 use Rattle.resb_tree.proofs.Parts.{entry_there, entries_there_length, field_here, field_on, field_none}
-use Rattle.resb_tree.proofs.in_place.first_with.Goals as goal
+use Rattle.resb_tree.proofs.refs.first_with.Goals as goal
 
 pub key_is-requires : goal.key_is-requires
 key_is-requires c =

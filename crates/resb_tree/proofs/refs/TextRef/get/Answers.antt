@@ -1,6 +1,6 @@
 use Rattle.resb_tree.specs.Words.{unit_in}
 use Rattle.resb_tree.proofs.Parts.{run_get, run_past}
-use Rattle.resb_tree.proofs.in_place.TextRef.get.Goals as goal
+use Rattle.resb_tree.proofs.refs.TextRef.get.Goals as goal
 
 pub returns-then-at-self : goal.returns-then-at-self
 returns-then-at-self c =
