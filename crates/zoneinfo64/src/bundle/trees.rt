@@ -1,4 +1,7 @@
 //! Trees of zone data for the tests.
+ghost use Rattle.std.specs.Prelude.{IfOk};
+ghost use Rattle.zoneinfo64.specs.Inside.ZoneList.{AreEntries};
+
 use super::*;
 use resb::write;
 use resb_tree::{Key, Resource};
@@ -108,7 +111,9 @@ pub fn two_zones(alloc: Global, first: &[u16], second: &[u16]) -> Result<Resourc
 }
 
 /// The zones of a tree, which is written in words first.
-pub fn read_tree(alloc: Global, root: Resource) -> Result<Vec<Named>, BinaryDeserializerError> {
+pub fn read_tree(alloc: Global, root: Resource) -> Result<Vec<Named>, BinaryDeserializerError>
+    ensures { IfOk result (λ v. AreEntries v.items) }
+{
     let words = write(alloc, &root)
         .ok()
         .ok_or(BinaryDeserializerError::Tree)?;
