@@ -50,7 +50,7 @@ length-lay_all (x ∷ xs) places at = ap suc (length-lay_all xs places (at + len
 -- ---- an array behind its items
 
 -- what was put on a stack, from where it was put
-topmost : (kept : ℕ) (stack new found : List ℕ) → new ≡ stack ++ found → kept ≡ length stack → drop kept new ≡ found
+pub topmost : (kept : ℕ) (stack new found : List ℕ) → new ≡ stack ++ found → kept ≡ length stack → drop kept new ≡ found
 topmost kept stack new found e k = rw (k, e) (drop-append_seam stack found)
 
 pub unstacked : (kept : ℕ) (stack new found left : List ℕ) → new ≡ stack ++ found → kept ≡ length stack → left ≡ take kept new → left ≡ stack
@@ -86,7 +86,7 @@ table_item es places base old out v lt e f =
     let inner = lay_all (map laid (values_in es)) places (base + length old) in
     rw (table_some es places (base + length old) lt) (omega (arith, f, ap length e, length-append old inner.0))
 
-length-values : (es : List (List ℕ × Resource)) → length (values_in es) ≡ length es
+pub length-values : (es : List (List ℕ × Resource)) → length (values_in es) ≡ length es
 length-values [] = refl
 length-values (e ∷ es) = ap suc (length-values es)
 

@@ -1,8 +1,14 @@
 pub mod Cases
 pub mod Folds
 pub mod Pools
+pub mod PoolSearch
 pub mod LaidWords
 pub mod LaidSteps
+pub mod LaidParents
+pub mod Rows
+pub mod RowParts
+pub mod RowParents
+pub mod PlacedKeys
 pub mod WrittenWords
 pub mod PackedWords
 pub mod Layers

@@ -1,5 +1,5 @@
 -- Values that stand one after the other, and bytes and units packed in words.
-use Rattle.std.proofs.Common.{◌≡◌, ℕ, suc, ◌+◌, ◌*◌, ◌/◌, ◌%◌, ◌<◌, List, [], ◌∷◌, ◌++◌, length, refl, ◌∙◌, subst, arith}
+use Rattle.std.proofs.Common.{◌≡◌, ℕ, suc, ◌+◌, ◌*◌, ◌/◌, ◌%◌, ◌<◌, List, [], ◌∷◌, ◌++◌, length, refl, ap, ◌∙◌, subst, arith}
 use Rattle.std.specs.Prelude.{slice_index}
 use Rattle.resb_tree.specs.Words.{run, byte_in, unit_in}
 use Rattle.resb.specs.Writing.{pack_bytes, pack_units}
@@ -129,3 +129,18 @@ length-pack_bytes (a ∷ []) = refl
 length-pack_bytes (a ∷ b ∷ []) = refl
 length-pack_bytes (a ∷ b ∷ c ∷ []) = refl
 length-pack_bytes (a ∷ b ∷ c ∷ d ∷ bytes) = omega (arith, length-pack_bytes bytes)
+
+-- ---- a zero unit behind units
+
+pub zero_even : (us : List ℕ) → length us % 2 ≡ 0 → pack_units (us ++ 0 ∷ []) ≡ pack_units us ++ 0 ∷ []
+zero_even [] h = refl
+zero_even (a ∷ []) h = absurd (omega arith)
+zero_even (a ∷ b ∷ us) h =
+    let g : length us % 2 ≡ 0 = omega arith in
+    ap (λ ws. (a + 65536 * b) ∷ ws) (zero_even us g)
+
+pub zero_odd : (us : List ℕ) → (length us % 2 ≡ 0 → ⊥) → pack_units us ≡ pack_units (us ++ 0 ∷ [])
+zero_odd [] h = absurd (h (omega arith))
+zero_odd (a ∷ []) h = let e : a ≡ a + 65536 * 0 = omega arith in ap (λ (n : ℕ). n ∷ []) e
+zero_odd (a ∷ b ∷ us) h =
+    ap (λ ws. (a + 65536 * b) ∷ ws) (zero_odd us (λ g. h (let e : suc (suc (length us)) % 2 ≡ 0 = omega arith in e)))

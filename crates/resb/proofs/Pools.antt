@@ -1,12 +1,12 @@
 -- A pool of keys: where a key of it begins, and what it is once all keys are met.
-use Rattle.std.proofs.Common.{◌≡◌, ℕ, zero, suc, ◌+◌, ◌<◌, Bool, true, false, cond, List, [], ◌∷◌, ◌++◌, length, Option, Some, None, refl, ap, sym, ◌∙◌, Bor, max, append_assoc, arith}
+use Rattle.std.proofs.Common.{◌≡◌, ℕ, zero, suc, ◌+◌, ◌<◌, ◌≤◌, Bool, true, false, cond, List, [], ◌∷◌, ◌++◌, length, Option, Some, None, refl, ap, sym, ◌∙◌, Bor, max, append_assoc, arith}
 use Rattle.std.specs.Prelude.{nat_lt, is_some, slice_get}
 use Rattle.std.specs.Option.{option_copied}
 use Rattle.std.specs.BTreeMap.{BTreeMap, get_by, UpdatesBy}
 use Rattle.std.specs.Cmp.Lexicographic.{slice_cmp}
 use Rattle.std.specs.Ordering.{nat_cmp}
 use Rattle.std.specs.Str.{bytes_eq}
-use Rattle.std.proofs.lemmas.Bool.{lt-ltb}
+use Rattle.std.proofs.lemmas.Bool.{lt-ltb, ltb-false}
 use Rattle.std.proofs.lemmas.List.{append-nil, length-append, map-append}
 use Rattle.std.proofs.lemmas.Map.Text.{btree_map_updates_str}
 use Rattle.std.proofs.lemmas.Slice.Eq.{bytes_eq-Decides}
@@ -17,10 +17,10 @@ use Rattle.resb.specs.Plan.{added, pooled}
 use Rattle.resb.specs.Writing.{key_place, pool_bytes, first_keys, places_of, most_of}
 use Rattle.resb_tree.proofs.KeySets.{bytes_eq_sym}
 
-abbrev told_at : List (List ℕ) → ℕ → List ℕ → Option ℕ
+abbrev pub told_at : List (List ℕ) → ℕ → List ℕ → Option ℕ
 told_at keys at key = cond (stands_in key keys) (Some (key_place keys at key)) None
 
-behind : (keys : List (List ℕ)) (k : List ℕ) (at : ℕ) → at + length k + 1 + length (pool_bytes keys) ≡ at + length (pool_bytes (k ∷ keys))
+pub behind : (keys : List (List ℕ)) (k : List ℕ) (at : ℕ) → at + length k + 1 + length (pool_bytes keys) ≡ at + length (pool_bytes (k ∷ keys))
 behind keys k at = omega (arith, length-append k (0 ∷ pool_bytes keys))
 
 absent_step : (keys : List (List ℕ)) (k : List ℕ) (at : ℕ) (q : List ℕ) → (stands_in q keys ≡ false → key_place keys (at + length k + 1) q ≡ at + length k + 1 + length (pool_bytes keys))
@@ -116,6 +116,16 @@ pub pooled_is : (keys ks : List (List ℕ)) → pooled keys ks ≡ all_pooled ke
 unfolding pooled
 pooled_is keys [] = ap (λ (all : List (List ℕ)). Some all) (sym (append-nil keys))
 pooled_is keys (k ∷ ks) = pooled_step keys ks k (pooled_is keys ks) (pooled_is (keys ++ k ∷ []) ks) (stands_in k keys) refl
+
+first_cases : (ks p : List (List ℕ)) (b : Bool) → nat_lt 65535 (most_of (places_of (first_keys [] ks) 32)) ≡ b → (let none : Option (List (List ℕ)) = None in cond b none (Some (first_keys [] ks)) ≡ Some p) → (p ≡ first_keys [] ks) × (b ≡ false)
+first_cases ks p true e h = absurd (let f : (let none : Option (List (List ℕ)) = None in none) ≡ Some p = h in cc)
+first_cases ks p false e h = (cc, refl)
+
+-- a pool that was filled has each key once, and each place fits
+pub pool_first : (ks p : List (List ℕ)) → pooled [] ks ≡ Some p → (p ≡ first_keys [] ks) × (most_of (places_of p 32) ≤ 65535)
+pool_first ks p h =
+    let found = first_cases ks p (nat_lt 65535 (most_of (places_of (first_keys [] ks) 32))) refl (sym (pooled_is [] ks) ∙ h) in
+    (found.0, rw found.0 (ltb-false _ _ found.1))
 
 placed_cases : (keys : List (List ℕ)) (q : List ℕ) (p : ℕ) (b : Bool) → stands_in q keys ≡ b → Some p ≡ (let none : Option ℕ = None in cond b (Some (place_of keys q)) none) → p ≡ place_of keys q
 placed_cases keys q p true e told = cc

@@ -1,5 +1,5 @@
 -- The words of a bundle, and when there are none.
-use Rattle.std.proofs.Common.{◌≡◌, ℕ, ◌+◌, ◌-◌, ◌*◌, ◌/◌, ◌≤◌, Bool, true, false, cond, List, [], ◌∷◌, ◌++◌, length, Option, Some, None, refl, sym, ap, ◌∙◌, max, append_assoc, inl, inr, arith}
+use Rattle.std.proofs.Common.{◌≡◌, ℕ, ◌+◌, ◌*◌, ◌≤◌, Bool, true, false, cond, List, [], ◌∷◌, ◌++◌, length, Option, Some, None, refl, sym, ap, ◌∙◌, max, append_assoc, inl, inr, arith}
 use Rattle.std.specs.Prelude.{map, nat_lt, ◌||◌, Result, Ok, Err, IfOk, OnOk, IfErr, IsErrAnd}
 use Rattle.std.specs.Str.{bytes_eq}
 use Rattle.std.proofs.lemmas.Bool.{lt-ltb, le-ltb}
@@ -10,12 +10,12 @@ use Rattle.resb_tree.specs.declared.error.ResbError.{ResbError}
 use Rattle.resb_tree.specs.declared.error.ResbError.TheVariants.{Memory, NoTree, TooLarge, BadKey}
 use Rattle.resb_tree.specs.declared.resource.Resource.{Resource}
 use Rattle.resb_tree.specs.Keys.{stands_in}
-use Rattle.resb.specs.Pool.{place_of, pool_end}
-use Rattle.resb.specs.Plan.{pooled, within, Fills, Fits, Suits, Refuses, keys_end}
+use Rattle.resb.specs.Pool.{place_of, words_end}
+use Rattle.resb.specs.Plan.{pooled, within, Fills, Fits, Suits, Refuses, keys_end, bundle_of}
 use Rattle.resb_tree.specs.Weight.{weight}
 use Rattle.resb.specs.Writing.{pack_bytes, pool_bytes, key_pool, keys_met, first_keys, key_place, places_of, most_of, most_entries, depth, has_wide_integer, has_bad_key, laid, header, written_body, written, is_too_large, writing, Writes}
 use Rattle.resb_tree.proofs.KeySets.{bytes_eq_sym}
-use Rattle.resb.proofs.LaidWords.{left_false, right_false, length-pack_bytes}
+use Rattle.resb.proofs.LaidWords.{left_false, right_false}
 use Rattle.resb.proofs.Pools.{all_pooled, pooled_is}
 use Rattle.resb.proofs.Within.{not_found, within_none}
 
@@ -76,20 +76,20 @@ near_all t = near_from (key_pool t) (keys_met t) [] refl
 
 -- ---- what is too large
 
-not_lt : (m n : ℕ) → nat_lt m n ≡ false → n ≤ m
+pub not_lt : (m n : ℕ) → nat_lt m n ≡ false → n ≤ m
 not_lt m n h = elim (leb_tells n m) [
   | inl g ↦ g.1
   | inr g ↦ absurd (let e : nat_lt m n ≡ true = lt-ltb m n g.1 in let f : true ≡ false = sym e ∙ h in cc)
 ]
 
 -- the limits that a tree keeps whose words are written
-record Kept (t : Resource) : Type 0 where
-  words : length (written t) ≤ 1048576
-  shallow : depth t ≤ 8
-  near : most_of (places_of (key_pool t) 32) ≤ 65535
-  counts : most_entries t ≤ 65535
-  small : has_wide_integer t ≡ false
-  light : weight t ≤ 8 * length (written t)
+pub record Kept (t : Resource) : Type 0 where
+  pub words : length (written t) ≤ 1048576
+  pub shallow : depth t ≤ 8
+  pub near : most_of (places_of (key_pool t) 32) ≤ 65535
+  pub counts : most_entries t ≤ 65535
+  pub small : has_wide_integer t ≡ false
+  pub light : weight t ≤ 8 * length (written t)
 
 kept : (t : Resource) → is_too_large t ≡ false → Kept t
 unfolding is_too_large
@@ -113,7 +113,7 @@ kept t h =
       light = not_lt (8 * length (written t)) (weight t) (right_false (a || b || c || d || e) f h);
     }
 
-keeps : (t : Resource) → Kept t → is_too_large t ≡ false
+pub keeps : (t : Resource) → Kept t → is_too_large t ≡ false
 unfolding is_too_large
 keeps t k =
     rw (le-ltb 1048576 (length (written t)) k.words, le-ltb 8 (depth t) k.shallow, le-ltb 65535 (most_of (places_of (key_pool t) 32)) k.near, le-ltb 65535 (most_entries t) k.counts, k.small, le-ltb (8 * length (written t)) (weight t) k.light) refl
@@ -196,32 +196,33 @@ words_told t pool words good shallow found s is =
 
 -- ---- as the parts of the words are made
 
-pub keys_end_is : (t : Resource) (keys : List (List ℕ)) (end : ℕ) → keys ≡ key_pool t → end ≡ pool_end keys → 8 + (end - 29) / 4 ≡ keys_end t
-keys_end_is t keys end h e =
-    let f : end ≡ pool_end (key_pool t) = rw h at e in
-    omega (arith, f, length-pack_bytes (pool_bytes (key_pool t)))
+pub base_is : (t : Resource) (keys : List (List ℕ)) (base : ℕ) → keys ≡ key_pool t → base ≡ words_end keys → base ≡ keys_end t
+base_is t keys base h e = rw h at e
 
-at_end : (t : Resource) (keys : List (List ℕ)) (end : ℕ) (old : List ℕ) → old ≡ [] → keys ≡ key_pool t → end ≡ pool_end keys → 8 + (end - 29) / 4 + length old ≡ keys_end t
-at_end t keys end old o h e = omega (arith, ap length o, keys_end_is t keys end h e)
+at_end : (t : Resource) (keys : List (List ℕ)) (base : ℕ) (old : List ℕ) → old ≡ [] → keys ≡ key_pool t → base ≡ words_end keys → base + length old ≡ keys_end t
+at_end t keys base old o h e = omega (arith, ap length o, base_is t keys base h e)
 
-pub fits_at : (t : Resource) (keys : List (List ℕ)) (end : ℕ) (old : List ℕ) → old ≡ [] → keys ≡ key_pool t → end ≡ pool_end keys → Suits t → Fits t (place_of keys) (8 + (end - 29) / 4 + length old)
-fits_at t keys end old o h e s = let at = at_end t keys end old o h e in rw (at, h) s.fits
+pub fits_at : (t : Resource) (keys : List (List ℕ)) (base : ℕ) (old : List ℕ) → old ≡ [] → keys ≡ key_pool t → base ≡ words_end keys → Suits t → Fits t (place_of keys) (base + length old)
+fits_at t keys base old o h e s = let at = at_end t keys base old o h e in rw (at, h) s.fits
 
-pub fits_from : (t : Resource) (keys : List (List ℕ)) (end : ℕ) (old : List ℕ) → old ≡ [] → keys ≡ key_pool t → end ≡ pool_end keys → Fits t (place_of keys) (8 + (end - 29) / 4 + length old) → Fits t (place_of (key_pool t)) (keys_end t)
-fits_from t keys end old o h e f = let at = at_end t keys end old o h e in rw (at, h) at f
+pub fits_from : (t : Resource) (keys : List (List ℕ)) (base : ℕ) (old : List ℕ) → old ≡ [] → keys ≡ key_pool t → base ≡ words_end keys → Fits t (place_of keys) (base + length old) → Fits t (place_of (key_pool t)) (keys_end t)
+fits_from t keys base old o h e f = let at = at_end t keys base old o h e in rw (at, h) at f
 
-pub length_told : (t : Resource) (keys : List (List ℕ)) (end n : ℕ) (old resources : List ℕ) → old ≡ [] → keys ≡ key_pool t → end ≡ pool_end keys → resources ≡ old ++ (laid t (place_of keys) (8 + (end - 29) / 4 + length old)).0
-    → n ≡ length resources → 8 + (end - 29) / 4 + n ≡ keys_end t + length (laid t (place_of (key_pool t)) (keys_end t)).0
-length_told t keys end n old resources o h e is c =
-    let at = at_end t keys end old o h e in
+pub length_told : (t : Resource) (keys : List (List ℕ)) (base : ℕ) (old resources : List ℕ) → old ≡ [] → keys ≡ key_pool t → base ≡ words_end keys → resources ≡ old ++ (laid t (place_of keys) (base + length old)).0
+    → base + length resources ≡ keys_end t + length (laid t (place_of (key_pool t)) (keys_end t)).0
+length_told t keys base old resources o h e is =
+    let at = at_end t keys base old o h e in
     let r : resources ≡ (laid t (place_of (key_pool t)) (keys_end t)).0 = rw (at, h, o) at is in
-    omega (arith, c, ap length r, keys_end_is t keys end h e)
+    omega (arith, ap length r, base_is t keys base h e)
 
-pub words_done : (t : Resource) (keys : List (List ℕ)) (at here end n most root : ℕ) (old resources front packed all : List ℕ) → all ≡ header ++ (front ++ packed ++ resources) → front ≡ root ∷ 7 ∷ here ∷ end ∷ end ∷ most ∷ 0 ∷ here ∷ []
-    → end ≡ here + n → n ≡ length resources → packed ≡ pack_bytes (pool_bytes keys) → resources ≡ old ++ (laid t (place_of keys) at).0 → root ≡ (laid t (place_of keys) at).1 → most ≡ most_entries t
-    → old ≡ [] → keys ≡ key_pool t → at ≡ keys_end t → here ≡ keys_end t → all ≡ written t
-words_done t keys at here end n most root old resources front packed all j f e c p r i m o h a b =
-    rw (j, f, e, c, p, r, i, m, o, h, a, b) (sym (written_is t))
+pub words_done : (t : Resource) (keys : List (List ℕ)) (base most root : ℕ) (old resources : List ℕ) → resources ≡ old ++ (laid t (place_of keys) (base + length old)).0 → root ≡ (laid t (place_of keys) (base + length old)).1 → most ≡ most_entries t
+    → old ≡ [] → keys ≡ key_pool t → base ≡ words_end keys → bundle_of keys base root resources most ≡ written t
+words_done t keys base most root old resources w i m o h e =
+    let at = at_end t keys base old o h e in
+    let b = base_is t keys base h e in
+    let v : resources ≡ (laid t (place_of (key_pool t)) (keys_end t)).0 = rw (at, h, o) at w in
+    let j : root ≡ (laid t (place_of (key_pool t)) (keys_end t)).1 = rw (at, h) at i in
+    rw (v, j, m, h, b) (sym (written_is t))
 
 -- ---- what is answered
 

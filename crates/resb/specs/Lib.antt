@@ -2,3 +2,5 @@ pub mod Writing
 pub mod Pool
 pub mod Plan
 pub mod Laws
+pub mod Drafts
+pub mod Inside

@@ -1,10 +1,10 @@
 -- The keys' places and the limits of the words that are written.
 use Rattle.std.specs.Prelude.{◌≡◌, ℕ, ◌+◌, ◌-◌, ◌*◌, ◌≤◌, ◌||◌, false, List, [], ◌∷◌, ◌++◌, length, map, Option, Some, None, Result, Ok, Err, if◌then◌else◌, nat_lt}
 use Rattle.resb_tree.specs.Keys.{stands_in}
-use Rattle.resb.specs.Pool.{bare, place_of, pool_end}
+use Rattle.resb.specs.Pool.{bare, place_of, pool_end, words_end}
 use Rattle.resb_tree.specs.Tree.{◌>>=◌}
 use Rattle.resb_tree.specs.Weight.{weight}
-use Rattle.resb.specs.Writing.{keys_met, item_keys, pack_bytes, pool_bytes, key_pool, written, laid, lay_all, most_of, most_entries, any_bad, has_wide_integer}
+use Rattle.resb.specs.Writing.{keys_met, item_keys, pack_bytes, pool_bytes, key_pool, written, laid, lay_all, most_of, most_entries, any_bad, has_wide_integer, header}
 use Rattle.resb_tree.specs.declared.error.ResbError.{ResbError}
 use Rattle.resb_tree.specs.declared.error.ResbError.TheVariants.{Memory, NoTree, TooLarge, BadKey}
 use Rattle.resb.specs.declared.pool.KeyPool.{KeyPool}
@@ -61,23 +61,33 @@ table_of entries = r.Table entries
 abbrev pub within : ℕ → ℕ → ℕ → ℕ → ℕ → Option (ℕ × ℕ)
 within levels limit depth weight most = if nat_lt levels depth || nat_lt limit weight then None else Some (limit - weight, most)
 
+-- the most words of a body: a file has at most 1048576, and 6 are its header
+abbrev pub most_words : ℕ
+most_words = 1048570
+
 -- a tree that is laid from a body word on stays within the limits
 pub record Fits (t : Resource) (places : List ℕ → ℕ) (at : ℕ) : Type 0 where
-  pub room : at + length (laid t places at).0 ≤ 1048570
+  pub room : at + length (laid t places at).0 ≤ most_words
   pub near : most_of (map places (keys_met t)) ≤ 65535
   pub counts : most_entries t ≤ 65535
   pub small : has_wide_integer t ≡ false
 
 -- the same of trees one after the other
 pub record FitsAll (ts : List Resource) (places : List ℕ → ℕ) (at : ℕ) : Type 0 where
-  pub room : at + length (lay_all (map laid ts) places at).0 ≤ 1048570
+  pub room : at + length (lay_all (map laid ts) places at).0 ≤ most_words
   pub near : most_of (map places (item_keys (map keys_met ts))) ≤ 65535
   pub counts : most_of (map most_entries ts) ≤ 65535
   pub small : any_bad (map has_wide_integer ts) ≡ false
 
 -- the body word behind the keys
 abbrev pub keys_end : Resource → ℕ
-keys_end t = 8 + length (pack_bytes (pool_bytes (key_pool t)))
+keys_end t = words_end (key_pool t)
+
+-- the words of a file of these keys and resources, of which one is the root
+abbrev pub bundle_of : List (List ℕ) → ℕ → ℕ → List ℕ → ℕ → List ℕ
+bundle_of keys keys_end root resources most =
+    let end = keys_end + length resources in
+    header ++ ((root ∷ 7 ∷ keys_end ∷ end ∷ end ∷ most ∷ 0 ∷ keys_end ∷ []) ++ pack_bytes (pool_bytes keys) ++ resources)
 
 -- the words stay within the limits, and the tree is not too heavy for them
 pub record Suits (t : Resource) : Type 0 where

@@ -2,7 +2,7 @@
 use Rattle.std.specs.Prelude.{ℕ, ◌+◌, List, length, map, Option, Some, None, if◌then◌else◌}
 use Rattle.std.specs.Borrow.{Bor}
 use Rattle.resb_tree.specs.Keys.{stands_in}
-use Rattle.resb.specs.Writing.{key_place, pool_bytes}
+use Rattle.resb.specs.Writing.{key_place, pool_bytes, pack_bytes}
 
 -- borrowed keys, as the keys
 abbrev pub bare : List (Bor (List ℕ)) → List (List ℕ)
@@ -11,6 +11,10 @@ bare keys = map (λ k. k.now) keys
 -- the byte behind the pool
 abbrev pub pool_end : List (List ℕ) → ℕ
 pool_end keys = 32 + length (pool_bytes keys)
+
+-- the body word behind the pool
+abbrev pub words_end : List (List ℕ) → ℕ
+words_end keys = 8 + length (pack_bytes (pool_bytes keys))
 
 -- the byte where a key begins, or would begin behind the others
 abbrev pub place_of : List (List ℕ) → List ℕ → ℕ

@@ -101,9 +101,9 @@ fn with_key<'a>(mut pool: KeyPool<'a>, key: &'a [u8]) -> Result<KeyPool<'a>, Res
     })
 }
 
-/// Each key once.
+/// Each key once, in the order in which they are first met.
 #[tactic(auto, unfolding(crate::specs::Plan::pooled))]
-fn pool_of<'a>(alloc: Global, met: &[&'a [u8]]) -> Result<KeyPool<'a>, ResbError>
+pub fn pool_of<'a>(alloc: Global, met: &[&'a [u8]]) -> Result<KeyPool<'a>, ResbError>
     ensures { Fills (λ (p : KeyPool). bare p.keys.items) result (pooled [] (bare met.now)) }
 {
     let mut pool = KeyPool {

@@ -13,11 +13,11 @@ use std::alloc::AllocError;
 /// An item is its type times 268,435,456, and its value. These are the items with the value 0.
 const BYTES: u32 = 268_435_456;
 
-const TABLE: u32 = 2 * 268_435_456;
+pub const TABLE: u32 = 2 * 268_435_456;
 
-const INTEGER: u32 = 7 * 268_435_456;
+pub const INTEGER: u32 = 7 * 268_435_456;
 
-const ARRAY: u32 = 8 * 268_435_456;
+pub const ARRAY: u32 = 8 * 268_435_456;
 
 const INTEGERS: u32 = 14 * 268_435_456;
 
@@ -25,7 +25,7 @@ const INTEGERS: u32 = 14 * 268_435_456;
 pub const MOST_WORDS: usize = 1_048_570;
 
 /// Whether so many words more stay within the limit, behind `base` words and those of `out`.
-fn has_room(base: usize, out: &Vec<u32>, more: usize) -> bool
+pub fn has_room(base: usize, out: &Vec<u32>, more: usize) -> bool
     requires { base + length out.now.items ≤ 1048570 }
     ensures { result ≡ nat_le (base + length out.now.items + more) 1048570 }
 {
@@ -34,7 +34,7 @@ fn has_room(base: usize, out: &Vec<u32>, more: usize) -> bool
 
 /// Appends the words of a text, and answers its item.
 #[tactic(auto, using(crate::proofs::LaidWords::leaves))]
-fn lay_text(units: &[u16], base: usize, out: &mut Vec<u32>) -> Result<u32, ResbError>
+pub fn lay_text(units: &[u16], base: usize, out: &mut Vec<u32>) -> Result<u32, ResbError>
     requires { base + length out.old.items ≤ 1048570 }
     ensures words { OnOk result (out.new.items ≡ out.old.items
         ++ (text_laid units.now no_places (base + length out.old.items)).0) }
@@ -62,7 +62,7 @@ fn lay_text(units: &[u16], base: usize, out: &mut Vec<u32>) -> Result<u32, ResbE
 
 /// Appends the words of bytes, and answers their item.
 #[tactic(auto, using(crate::proofs::LaidWords::leaves))]
-fn lay_bytes(bytes: &[u8], base: usize, out: &mut Vec<u32>) -> Result<u32, ResbError>
+pub fn lay_bytes(bytes: &[u8], base: usize, out: &mut Vec<u32>) -> Result<u32, ResbError>
     requires { base + length out.old.items ≤ 1048570 }
     ensures words { OnOk result (out.new.items ≡ out.old.items
         ++ (bytes_laid bytes.now no_places (base + length out.old.items)).0) }
@@ -90,7 +90,7 @@ fn lay_bytes(bytes: &[u8], base: usize, out: &mut Vec<u32>) -> Result<u32, ResbE
 
 /// Appends the words of integers, and answers their item.
 #[tactic(auto, using(crate::proofs::LaidWords::leaves))]
-fn lay_integers(values: &[u32], base: usize, out: &mut Vec<u32>) -> Result<u32, ResbError>
+pub fn lay_integers(values: &[u32], base: usize, out: &mut Vec<u32>) -> Result<u32, ResbError>
     requires { base + length out.old.items ≤ 1048570 }
     ensures words { OnOk result (out.new.items ≡ out.old.items
         ++ (integers_laid values.now no_places (base + length out.old.items)).0) }
@@ -159,7 +159,7 @@ fn push_places(
 }
 
 /// Moves the words behind the first `kept` of a stack to the end of `out`.
-fn unstack(stack: &mut Vec<u32>, kept: usize, out: &mut Vec<u32>) -> Result<(), AllocError>
+pub fn unstack(stack: &mut Vec<u32>, kept: usize, out: &mut Vec<u32>) -> Result<(), AllocError>
     requires { kept ≤ length stack.old.items }
     ensures words { OnOk result (out.new.items ≡ out.old.items ++ drop kept stack.old.items) }
     ensures stack { OnOk result (stack.new.items ≡ take kept stack.old.items) }

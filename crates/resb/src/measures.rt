@@ -82,7 +82,7 @@ pub fn measure(tree: &Resource, levels: u8, limit: usize) -> Option<(usize, usiz
 }
 
 /// Whether each byte is 1 to 127.
-fn is_key(bytes: &[u8]) -> bool
+pub fn is_key(bytes: &[u8]) -> bool
     ensures { result ≡ is_key bytes.now }
 {
     for byte in bytes {

@@ -10,18 +10,28 @@ pub fn pair(low: u16, high: u16) -> u32
     u32::from(low) + 65_536 * u32::from(high)
 }
 
-/// Appends the words of units and a zero behind them, two to a word, the low unit first. A zero fills the last word.
-pub fn push_text(out: &mut Vec<u32>, units: &[u16]) -> Result<(), AllocError>
-    ensures { OnOk result (out.new.items ≡ out.old.items ++ pack_units (units.now ++ 0 ∷ [])) }
+/// Appends the words of units, two to a word, the low unit first. A zero fills the last word.
+pub fn push_units(out: &mut Vec<u32>, units: &[u16]) -> Result<(), AllocError>
+    ensures { OnOk result (out.new.items ≡ out.old.items ++ pack_units units.now) }
 {
     let mut rest = units;
     while let [low, high, more @ ..] = rest {
         out.push(pair(*low, *high))?;
         rest = more;
     }
-    match rest {
-        [low] => out.push(u32::from(*low))?,
-        _ => out.push(0)?,
+    if let [low] = rest {
+        out.push(u32::from(*low))?;
+    }
+    Ok(())
+}
+
+/// Appends the words of units and a zero behind them.
+pub fn push_text(out: &mut Vec<u32>, units: &[u16]) -> Result<(), AllocError>
+    ensures { OnOk result (out.new.items ≡ out.old.items ++ pack_units (units.now ++ 0 ∷ [])) }
+{
+    push_units(out, units)?;
+    if units.len() % 2 == 0 {
+        out.push(0)?;
     }
     Ok(())
 }

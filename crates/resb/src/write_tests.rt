@@ -53,6 +53,35 @@ fn nested(alloc: Global, arrays: u8) -> Result<Resource, AllocError> {
     Ok(tree)
 }
 
+/// The keys of the trees of zones, as a walk meets them.
+const KEYS: [&[u8]; 5] = [b"Zones", b"typeOffsets", b"Names", b"Rules", b"Regions"];
+
+/// Puts the zone of a number into the row.
+fn draft_zone(draft: &mut Draft<'_>, offset: u32) -> Result<(), ResbError> {
+    draft.integers(&[offset, 0])?;
+    draft.table(&[b"typeOffsets"])
+}
+
+/// The words of as many zones as there are names and offsets, as they are told.
+fn drafted(alloc: Global, names: &[&[u16]], offsets: &[u32]) -> Result<Vec<u32>, ResbError> {
+    let mut draft = Draft::new(alloc, KEYS.as_slice())?;
+    for offset in offsets {
+        draft_zone(&mut draft, *offset)?;
+    }
+    draft.array(offsets.len())?;
+    for name in names {
+        draft.text(*name)?;
+    }
+    draft.array(names.len())?;
+    draft.table(&[])?;
+    for _ in names {
+        draft.text(&[48, 48, 49])?;
+    }
+    draft.array(names.len())?;
+    draft.table(&[b"Zones", b"Names", b"Rules", b"Regions"])?;
+    draft.write()
+}
+
 fn is_refused(answer: Result<Vec<u32>, ResbError>, why: ResbError) -> bool {
     match answer {
         Ok(_) => false,
@@ -241,5 +270,70 @@ fn writes_tables(rt: HostRuntime) -> Result<(), Fail> {
         0x2000_000b,
     ];
     assert!(rt; has_body(words.as_slice(), both.as_slice()));
+    Ok(())
+}
+
+#[test]
+fn drafts_what_it_writes(rt: HostRuntime) -> Result<(), Fail> {
+    let alloc = rt.alloc();
+    let first = [84, 101, 115, 116, 47, 80, 108, 117, 115, 50];
+    let words = drafted(alloc, &[first.as_slice()], &[7200])?;
+    let tree = one_zone(alloc)?;
+    assert_eq!(rt; words.as_slice(), write(alloc, &tree)?.as_slice());
+    let second = [84, 101, 115, 116];
+    let words = drafted(alloc, &[first.as_slice(), second.as_slice()], &[7200, 3600])?;
+    let tree = read(alloc, words.as_slice())?;
+    assert_eq!(rt; words.as_slice(), write(alloc, &tree)?.as_slice());
+    Ok(())
+}
+
+#[test]
+fn drafts_each_kind(rt: HostRuntime) -> Result<(), Fail> {
+    let alloc = rt.alloc();
+    let mut draft = Draft::new(alloc, &[])?;
+    draft.bytes(&[1, 2, 3, 4, 5])?;
+    draft.integer(268_435_455)?;
+    draft.array(0)?;
+    draft.array(3)?;
+    let mut items = Items::new(alloc);
+    items.push(Resource::Bytes(Items::from_slice(alloc, &[1, 2, 3, 4, 5])?))?;
+    items.push(Resource::Integer(268_435_455))?;
+    items.push(Resource::Array(Items::new(alloc)))?;
+    let words = write(alloc, &Resource::Array(items))?;
+    assert_eq!(rt; draft.write()?.as_slice(), words.as_slice());
+    Ok(())
+}
+
+/// What comes of a table of two integers under these keys, which are the draft's too.
+fn drafted_table(alloc: Global, keys: &[&[u8]]) -> Result<Vec<u32>, ResbError> {
+    let mut draft = Draft::new(alloc, keys)?;
+    draft.integer(5)?;
+    draft.integer(6)?;
+    draft.table(keys)?;
+    draft.write()
+}
+
+/// What comes of an empty array inside so many arrays.
+fn drafted_arrays(alloc: Global, arrays: u8) -> Result<Vec<u32>, ResbError> {
+    let mut draft = Draft::new(alloc, &[])?;
+    draft.array(0)?;
+    for _ in 0..arrays {
+        draft.array(1)?;
+    }
+    draft.write()
+}
+
+#[test]
+fn drafts_refuse(rt: HostRuntime) -> Result<(), Fail> {
+    let alloc = rt.alloc();
+    assert!(rt; drafted_table(alloc, &[b"a", b"b"]).is_ok());
+    assert!(rt; is_refused(drafted_table(alloc, &[b"a", b"a"]), ResbError::BadKey));
+    assert!(rt; is_refused(drafted_table(alloc, &[b"a", &[128]]), ResbError::BadKey));
+    assert!(rt; is_refused(drafted_table(alloc, &[b"a"]), ResbError::NoTree));
+    assert!(rt; drafted_arrays(alloc, 7).is_ok());
+    assert!(rt; is_refused(drafted_arrays(alloc, 8), ResbError::TooLarge));
+    let mut draft = Draft::new(alloc, &[b"a"])?;
+    draft.integer(5)?;
+    assert!(rt; draft.table(&[b"b"]).is_err());
     Ok(())
 }

@@ -1,7 +1,7 @@
-ghost use Rattle.std.specs.Prelude.{Vec, ℕ, ◌≡◌, ◌+◌, ◌++◌, ◌∷◌, ◌≤◌, [], length, IfOk, OnOk, IfErr, Some};
+ghost use Rattle.std.specs.Prelude.{Vec, ℕ, ◌≡◌, ◌+◌, ◌*◌, ◌++◌, ◌∷◌, ◌≤◌, [], length, IfOk, OnOk, IfErr, Some};
 ghost use Rattle.std.specs.Global.{Global};
 ghost use Rattle.resb.specs.Pool.{bare};
-ghost use Rattle.resb.specs.Plan.{Suits, Refuses};
+ghost use Rattle.resb.specs.Plan.{most_words, bundle_of, Suits, Refuses};
 ghost use Rattle.resb_tree.specs.Header.{tree_of};
 ghost use Rattle.resb_tree.specs.Weight.{weight};
 ghost use Rattle.resb.specs.Writing.{pack_bytes, pool_bytes, key_pool, header, most_entries, written, writing, Writes};
@@ -16,10 +16,10 @@ use resb_tree::{ResbError, Resource};
 use std::alloc::{AllocError, Global};
 
 /// How deep a tree may be.
-const DEPTH: u8 = 8;
+pub const DEPTH: u8 = 8;
 
 /// The most that a tree may weigh: 8 times the most words.
-const WEIGHT: usize = 8_388_608;
+pub const WEIGHT: usize = 8_388_608;
 
 /// The header, of 24 bytes.
 const HEADER: [u32; 6] = [0x27DA_0018, 0x14, 0x2_0000, 0x4273_6552, 2, 0];
@@ -48,8 +48,8 @@ fn key_words(alloc: Global, keys: &[&[u8]]) -> Result<Vec<u32>, AllocError>
 
 /// The root item and the index.
 fn front_words(root: u32, keys_end: usize, end: usize, most: usize) -> [u32; 8]
-    requires keys { keys_end ≤ 1048570 }
-    requires end { end ≤ 1048570 }
+    requires keys { keys_end ≤ most_words }
+    requires end { end ≤ most_words }
     requires most { most ≤ 65535 }
     ensures { result ≡ root ∷ 7 ∷ keys_end ∷ end ∷ end ∷ most ∷ 0 ∷ keys_end ∷ [] }
 {
@@ -75,6 +75,34 @@ fn joined(
     Ok(words)
 }
 
+/// The words of a bundle of these keys and of resources of so much weight, of which one is the root. They begin at body word
+/// `keys_end`.
+pub fn bundle_words(
+    alloc: Global,
+    pool: &KeyPool<'_>,
+    keys_end: usize,
+    root: u32,
+    resources: &[u32],
+    weighed: usize,
+    most: usize,
+) -> Result<Vec<u32>, ResbError>
+    requires room { keys_end + length resources.now ≤ most_words }
+    requires most { most ≤ 65535 }
+    ensures words { IfOk result (λ words. words.items
+        ≡ bundle_of (bare pool.now.keys.items) keys_end root resources.now most) }
+    ensures light { OnOk result (weighed ≤ 8 * (6 + (keys_end + length resources.now))) }
+    ensures refused { IfErr result
+        (Refuses (weighed ≤ 8 * (6 + (keys_end + length resources.now)))) }
+{
+    let end = keys_end + resources.len();
+    if weighed > 8 * (6 + end) {
+        return Err(ResbError::TooLarge);
+    }
+    let keys = key_words(alloc, pool.keys.as_slice())?;
+    let front = front_words(root, keys_end, end, most);
+    Ok(joined(alloc, front.as_slice(), keys.as_slice(), resources)?)
+}
+
 /// The words of a tree, whose keys the pool has.
 fn words_of(
     alloc: Global,
@@ -90,25 +118,22 @@ fn words_of(
     ensures suits { OnOk result (Suits tree.now) }
     ensures refused { IfErr result (Refuses (Suits tree.now)) }
 {
-    let keys_end = 8 + (pool.end - 29) / 4;
+    let keys_end = pool.words_end();
     if keys_end > MOST_WORDS {
         return Err(ResbError::TooLarge);
     }
     let mut resources = Vec::new(alloc);
     let mut stack = Vec::new(alloc);
     let root = lay(tree, pool, keys_end, &mut resources, &mut stack)?;
-    let end = keys_end + resources.len();
-    if weighed > 8 * (6 + end) {
-        return Err(ResbError::TooLarge);
-    }
-    let keys = key_words(alloc, pool.keys.as_slice())?;
-    let front = front_words(root, keys_end, end, most);
-    Ok(joined(
+    bundle_words(
         alloc,
-        front.as_slice(),
-        keys.as_slice(),
+        pool,
+        keys_end,
+        root,
         resources.as_slice(),
-    )?)
+        weighed,
+        most,
+    )
 }
 
 // The words of a tree, or why there are none.

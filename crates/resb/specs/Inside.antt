@@ -1,0 +1,2 @@
+-- What the contracts of private functions speak of: no public promise needs it.
+pub mod Laying

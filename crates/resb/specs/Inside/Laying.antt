@@ -1,0 +1,17 @@
+-- Trees whose words stand behind others.
+use Rattle.std.specs.Prelude.{◌≡◌, ℕ, ◌+◌, List, ◌++◌, length, map}
+use Rattle.resb_tree.specs.declared.resource.Resource.{Resource}
+use Rattle.resb.specs.Plan.{Fits, FitsAll}
+use Rattle.resb.specs.Writing.{laid, lay_all}
+
+-- a tree stands behind the old words, the first of which is body word `base`, and this is its item
+pub record IsLaid (t : Resource) (places : List ℕ → ℕ) (base : ℕ) (old new : List ℕ) (told : ℕ) : Type 0 where
+  pub words : new ≡ old ++ (laid t places (base + length old)).0
+  pub item : told ≡ (laid t places (base + length old)).1
+  pub fits : Fits t places (base + length old)
+
+-- the same of trees one after the other
+pub record Stands (ts : List Resource) (places : List ℕ → ℕ) (base : ℕ) (old new told : List ℕ) : Type 0 where
+  pub words : new ≡ old ++ (lay_all (map laid ts) places (base + length old)).0
+  pub items : told ≡ (lay_all (map laid ts) places (base + length old)).1
+  pub fits : FitsAll ts places (base + length old)
