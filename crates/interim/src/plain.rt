@@ -98,7 +98,8 @@ fn half(text: &[u8]) -> Option<Half>
 #[inline(always)]
 fn weekday(phrase: &[u8]) -> Option<(u8, TimeSpec)>
     ensures { IfSome result (λ p.
-        IsReadAs phrase.now (Some (DateSpec.FromName (ByName.WeekDay p.0) Direction.Here)) (Some p.1)) }
+        IsReadAs phrase.now
+        (Some (DateSpec.FromName (ByName.WeekDay p.0) Direction.Here)) (Some p.1)) }
 {
     let len = letters(phrase);
     let weekday = weekday_of(&phrase[..len])?;

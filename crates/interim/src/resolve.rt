@@ -33,6 +33,9 @@ fn time_of<T: Time>(clock: TimeSpec) -> Result<T, Refused>
     ensures { Gives T.memory (λ t. T.time t) result (clock_time clock) }
 {
     let time = T::from_hms(clock.hour % 24, clock.min, clock.sec)?;
+    if clock.microsec == 0 {
+        return Ok(time);
+    }
     time.with_micros(clock.microsec)
 }
 
@@ -308,7 +311,8 @@ fn written_out<Dt: DateTime>(
 ) -> Result<Dt, Refused>
     ensures moment { Answers Dt.memory (λ d. Dt.moment d) result
         (Means (Dt.may_show (Dt.zone base)) (Dt.may_place (Dt.zone base))
-        Dt.Date.calendar Dt.seconds (Dt.moment base) dialect (Some (DateSpec.Absolute written)) clock) }
+        Dt.Date.calendar Dt.seconds (Dt.moment base) dialect
+        (Some (DateSpec.Absolute written)) clock) }
     ensures zone { IfOk result (λ d. Dt.zone d ≡ Dt.zone base) }
 {
     match base.zone_if_inside() {
@@ -353,7 +357,8 @@ impl ByName {
     ) -> Result<Dt, Refused>
         ensures moment { Answers Dt.memory (λ d. Dt.moment d) result
             (Means (Dt.may_show (Dt.zone base)) (Dt.may_place (Dt.zone base))
-            Dt.Date.calendar Dt.seconds (Dt.moment base) dialect (Some (DateSpec.FromName self direct)) ts) }
+            Dt.Date.calendar Dt.seconds (Dt.moment base) dialect
+            (Some (DateSpec.FromName self direct)) ts) }
         ensures zone { IfOk result (λ d. Dt.zone d ≡ Dt.zone base) }
     {
         DateSpec::FromName(self, direct).into_date_time(base, ts, dialect)
