@@ -63,6 +63,9 @@ fn back(phrase: &[u8]) -> Option<Interval>
     ensures { IfSome result (λ interval.
         IsReadAs phrase.now (Some (DateSpec.Relative interval)) None) }
 {
+    let [.., b' ', b'a', b'g', b'o'] = phrase else {
+        return None;
+    };
     let [first @ b'0'..=b'9', after @ ..] = phrase else {
         return None;
     };
@@ -101,6 +104,9 @@ fn weekday(phrase: &[u8]) -> Option<(u8, TimeSpec)>
         IsReadAs phrase.now
         (Some (DateSpec.FromName (ByName.WeekDay p.0) Direction.Here)) (Some p.1)) }
 {
+    let [.., b'm'] = phrase else {
+        return None;
+    };
     let len = letters(phrase);
     let weekday = weekday_of(&phrase[..len])?;
     let [b' ', first @ b'0'..=b'9', after @ ..] = &phrase[len..] else {
