@@ -3,14 +3,17 @@ use crate::tests::{ONE_ZONE, edited, heavy, long_table, small};
 use std::alloc::{AllocError, Global};
 use std::test::Fail;
 
-/// How many of the kinds of resources it is seen as: 1 of each.
-fn kinds(seen: &ResourceRef<'_>) -> u8 {
-    u8::from(seen.text().is_some())
-        + u8::from(seen.bytes().is_some())
-        + u8::from(seen.integers().is_some())
-        + u8::from(seen.items().is_some())
-        + u8::from(seen.entries().is_some())
-        + u8::from(seen.index().is_some())
+/// Whether it is seen as one of the kinds of resources, and as no other.
+fn is_of_one_kind(seen: &ResourceRef<'_>) -> bool {
+    let kinds = [
+        seen.text().is_some(),
+        seen.bytes().is_some(),
+        seen.integers().is_some(),
+        seen.items().is_some(),
+        seen.entries().is_some(),
+        seen.index().is_some(),
+    ];
+    kinds.iter().filter(|kind| **kind).count() == 1
 }
 
 fn same_text(alloc: Global, units: &[u16], seen: &ResourceRef<'_>) -> Result<bool, AllocError> {
@@ -103,7 +106,7 @@ fn same(
     tree: &Resource,
     seen: &ResourceRef<'_>,
 ) -> Result<bool, AllocError> {
-    if levels == 0 || kinds(seen) != 1 {
+    if levels == 0 || !is_of_one_kind(seen) {
         return Ok(false);
     }
     match tree {
@@ -259,14 +262,13 @@ fn finds_fields_in_place(rt: HostRuntime) -> Result<(), Fail> {
     assert!(rt; root.field(b"Zone").is_none() && root.field(b"Zoness").is_none());
     assert!(rt; root.field(b"Zones\0").is_none() && root.field(b"").is_none());
     assert!(rt; zones.field(b"Zones").is_none());
-    let (key, value) = root.entries().ok_or("a table")?.at(1);
+    let entries = root.entries().ok_or("a table")?;
+    assert_eq!(rt; entries.len(), 4);
+    let (key, value) = entries.at(1);
     assert!(rt; key.is(b"Names") && !key.is(b"Name") && !key.is(b"Names\0"));
-    let name = value
-        .items()
-        .ok_or("an array")?
-        .at(0)
-        .text()
-        .ok_or("a text")?;
+    let names = value.items().ok_or("an array")?;
+    assert_eq!(rt; names.len(), 1);
+    let name = names.at(0).text().ok_or("a text")?;
     assert_eq!(rt; name.len(), 10);
     assert_eq!(rt; name.get(9), Some(50));
     assert_eq!(rt; name.get(10), None);
