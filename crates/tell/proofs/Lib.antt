@@ -6,6 +6,7 @@ pub mod SaidMoments
 pub mod MomentTexts
 pub mod FoundMoments
 pub mod LoadZones
+pub mod LoadDraft
 pub mod LoadReports
 pub mod Tallies
 pub mod RunLemmas

@@ -87,7 +87,7 @@ one_named n = simp (out-Text, out-Table, zone_read n) refl
 -- ---- all zones
 
 -- what f gives from a number on
-abbrev run : {A : Type 0} → (ℕ → A) → ℕ → ℕ → List A
+abbrev pub run : {A : Type 0} → (ℕ → A) → ℕ → ℕ → List A
 run f at zero = []
 run f at (suc n) = f at ∷ run f (at + 1) n
 
@@ -103,7 +103,7 @@ run-last f at (suc n) =
     let place : at + 1 + n ≡ at + suc n = omega arith in
     ap (λ l. f at ∷ l) (run-last f (at + 1) n ∙ rw place refl)
 
-up_to-run : {A : Type 0} (f : ℕ → A) (n : ℕ) → up_to f n ≡ run f 1 n
+pub up_to-run : {A : Type 0} (f : ℕ → A) (n : ℕ) → up_to f n ≡ run f 1 n
 up_to-run f zero = refl
 up_to-run f (suc n) =
     let place : n + 1 ≡ 1 + n = omega arith in

@@ -1,14 +1,19 @@
 //! A large input, made from a number: a bundle of that many zones, and a line for each.
-ghost use Rattle.std.specs.Prelude.{◌≡◌, ◌+◌, ◌/◌, ◌%◌, ◌<◌, ◌++◌, ◌∷◌, [], codes, Some, IfOk, OnOk};
+ghost use Rattle.std.specs.Prelude.{◌≡◌, ℕ, List, ◌+◌, ◌/◌, ◌%◌, ◌<◌, ◌++◌, ◌∷◌, [], codes, Some, IfOk, OnOk};
 ghost use Rattle.resb_tree.specs.declared.resource.Resource.TheVariants as r;
 ghost use Rattle.resb_tree.specs.Header.{tree_of};
+ghost use Rattle.resb_tree.specs.declared.resource.Resource.{Resource};
+ghost use Rattle.resb.specs.Drafts.{Holds};
+ghost use Rattle.resb.specs.Writing.{key_pool};
 ghost use Rattle.tell.specs.Run.{words_of};
 ghost use Rattle.tell.specs.Load.{up_to, zone_name, load_offset, load_phrase, load_line, load_input};
 ghost use Rattle.tell.specs.Inside.LoadTree.{zone_tree, name_tree, region_tree, load_tree};
 
-use resb::{Key, Resource, write};
-use sqlite_items::Items;
+use resb::{Draft, ResbError};
 use std::alloc::{AllocError, Global};
+
+// The most bytes of a line with its LF.
+const LINE: usize = 42;
 
 // One digit of a number, as a character.
 #[inline(always)]
@@ -44,85 +49,97 @@ fn offset(number: u32) -> i32
     900 * (number % 97) as i32 - 43_200
 }
 
-// A text of ASCII characters.
-fn text(alloc: Global, characters: &[u8]) -> Result<Resource, AllocError>
-    ensures { IfOk result (λ tree. tree ≡ r.Text characters.now) }
+// The name of a zone as UTF-16 units.
+fn name_units(number: u32) -> [u16; 10]
+    ensures { result ≡ zone_name number }
 {
-    let mut units = Vec::with_capacity(alloc, characters.len())?;
-    for byte in characters {
-        units.push(u16::from(*byte))?;
+    [
+        u16::from(b'L'),
+        u16::from(b'o'),
+        u16::from(b'a'),
+        u16::from(b'd'),
+        u16::from(b'/'),
+        u16::from(digit(number, 10_000)),
+        u16::from(digit(number, 1000)),
+        u16::from(digit(number, 100)),
+        u16::from(digit(number, 10)),
+        u16::from(digit(number, 1)),
+    ]
+}
+
+// A draft with the keys of the bundle of that many zones.
+fn begun(alloc: Global, count: u32) -> Result<Draft<'static>, ResbError>
+    ensures { IfOk result (λ draft. Holds draft (key_pool (load_tree count)) []) }
+{
+    if count == 0 {
+        return Draft::new(alloc, &[b"Zones", b"Names", b"Rules", b"Regions"]);
     }
-    Ok(Resource::Text(Items::from_vec(units)))
+    let keys: [&[u8]; 5] = [b"Zones", b"typeOffsets", b"Names", b"Rules", b"Regions"];
+    Draft::new(alloc, &keys)
 }
 
-// A table of one entry.
-fn one_entry(alloc: Global, key: &Key, value: Resource) -> Result<Resource, AllocError>
-    ensures { IfOk result (λ tree. tree ≡ r.Table ((key.now, value) ∷ [])) }
+// Tells a zone whose one offset holds at all seconds.
+fn tell_zone(draft: &mut Draft<'_>, number: u32) -> Result<(), ResbError>
+    ensures { OnOk result ((keys : List (List ℕ)) (row : List Resource)
+        → Holds draft.old keys row → Holds draft.new keys (row ++ zone_tree number ∷ [])) }
 {
-    let mut entries = Vec::with_capacity(alloc, 1)?;
-    entries.push((key.clone()?, value))?;
-    Ok(Resource::Table(Items::from_vec(entries)))
+    draft.integers(&[offset(number).cast_unsigned(), 0])?;
+    draft.table(&[b"typeOffsets"])?;
+    Ok(())
 }
 
-// A zone whose one offset holds at all seconds.
-fn zone(alloc: Global, key: &Key, number: u32) -> Result<Resource, AllocError>
-    requires { key.now ≡ codes "typeOffsets" }
-    ensures { IfOk result (λ tree. tree ≡ zone_tree number) }
+fn tell_zones(draft: &mut Draft<'_>, count: u32) -> Result<(), ResbError>
+    ensures { OnOk result ((keys : List (List ℕ)) (row : List Resource) → Holds draft.old keys row
+        → Holds draft.new keys (row ++ r.Array (up_to zone_tree count) ∷ [])) }
 {
-    let offsets = [offset(number).cast_unsigned(), 0];
-    let offsets = Items::from_slice(alloc, &offsets)?;
-    one_entry(alloc, key, Resource::Integers(offsets))
-}
-
-fn zones(alloc: Global, count: u32) -> Result<Resource, AllocError>
-    ensures { IfOk result (λ tree. tree ≡ r.Array (up_to zone_tree count)) }
-{
-    let key = Key::from_slice(alloc, b"typeOffsets")?;
-    let mut zones = Vec::with_capacity(alloc, count as usize)?;
     for number in 0..count {
-        zones.push(zone(alloc, &key, number + 1)?)?;
+        tell_zone(draft, number + 1)?;
     }
-    Ok(Resource::Array(Items::from_vec(zones)))
+    draft.array(count as usize)?;
+    Ok(())
 }
 
-fn names(alloc: Global, count: u32) -> Result<Resource, AllocError>
-    ensures { IfOk result (λ tree. tree ≡ r.Array (up_to name_tree count)) }
+fn tell_names(draft: &mut Draft<'_>, count: u32) -> Result<(), ResbError>
+    ensures { OnOk result ((keys : List (List ℕ)) (row : List Resource) → Holds draft.old keys row
+        → Holds draft.new keys (row ++ r.Array (up_to name_tree count) ∷ [])) }
 {
-    let mut names = Vec::with_capacity(alloc, count as usize)?;
     for number in 0..count {
-        names.push(text(alloc, &zone_name(number + 1))?)?;
+        let name = name_units(number + 1);
+        draft.text(&name)?;
     }
-    Ok(Resource::Array(Items::from_vec(names)))
+    draft.array(count as usize)?;
+    Ok(())
 }
 
-fn regions(alloc: Global, count: u32) -> Result<Resource, AllocError>
-    ensures { IfOk result (λ tree. tree ≡ r.Array (up_to region_tree count)) }
+fn tell_regions(draft: &mut Draft<'_>, count: u32) -> Result<(), ResbError>
+    ensures { OnOk result ((keys : List (List ℕ)) (row : List Resource) → Holds draft.old keys row
+        → Holds draft.new keys (row ++ r.Array (up_to region_tree count) ∷ [])) }
 {
-    let mut regions = Vec::with_capacity(alloc, count as usize)?;
     for _number in 0..count {
-        regions.push(text(alloc, b"001")?)?;
+        draft.text(&[48, 48, 49])?;
     }
-    Ok(Resource::Array(Items::from_vec(regions)))
+    draft.array(count as usize)?;
+    Ok(())
 }
 
-// The tree of a bundle of that many zones.
-fn tree(alloc: Global, count: u32) -> Result<Resource, AllocError>
-    ensures { IfOk result (λ tree. tree ≡ load_tree count) }
+// The words of a bundle of that many zones.
+fn words(alloc: Global, count: u32) -> Result<Vec<u32>, ResbError>
+    ensures { IfOk result (λ words. tree_of words.items ≡ Some (load_tree count)) }
 {
-    let mut root = Vec::with_capacity(alloc, 4)?;
-    root.push((Key::from_slice(alloc, b"Zones")?, zones(alloc, count)?))?;
-    root.push((Key::from_slice(alloc, b"Names")?, names(alloc, count)?))?;
-    let rules = Resource::Table(Items::new(alloc));
-    root.push((Key::from_slice(alloc, b"Rules")?, rules))?;
-    root.push((Key::from_slice(alloc, b"Regions")?, regions(alloc, count)?))?;
-    Ok(Resource::Table(Items::from_vec(root)))
+    let mut draft = begun(alloc, count)?;
+    tell_zones(&mut draft, count)?;
+    tell_names(&mut draft, count)?;
+    draft.table(&[])?;
+    tell_regions(&mut draft, count)?;
+    draft.table(&[b"Zones", b"Names", b"Rules", b"Regions"])?;
+    draft.write()
 }
 
 // The bytes of words, the low byte first.
 fn bytes_of(alloc: Global, words: &[u32]) -> Result<Vec<u8>, AllocError>
     ensures { IfOk result (λ bytes. words_of bytes.items ≡ words.now) }
 {
-    let mut bytes = Vec::new(alloc);
+    let mut bytes = Vec::with_capacity(alloc, words.len().saturating_mul(4))?;
     for word in words {
         bytes.extend_from_slice(&word.to_le_bytes())?;
     }
@@ -133,8 +150,7 @@ fn bytes_of(alloc: Global, words: &[u32]) -> Result<Vec<u8>, AllocError>
 pub fn bundle(alloc: Global, count: u32) -> Result<Vec<u8>, AllocError>
     ensures { IfOk result (λ bytes. tree_of (words_of bytes.items) ≡ Some (load_tree count)) }
 {
-    let tree = tree(alloc, count)?;
-    match write(alloc, &tree) {
+    match words(alloc, count) {
         Ok(words) => bytes_of(alloc, &words),
         Err(_) => Err(AllocError),
     }
@@ -167,7 +183,7 @@ fn push_line(input: &mut Vec<u8>, number: u32) -> Result<(), AllocError>
 pub fn input(alloc: Global, count: u32) -> Result<Vec<u8>, AllocError>
     ensures { IfOk result (λ bytes. bytes.items ≡ load_input count) }
 {
-    let mut input = Vec::new(alloc);
+    let mut input = Vec::with_capacity(alloc, LINE * count as usize)?;
     for number in 0..count {
         push_line(&mut input, number + 1)?;
     }
