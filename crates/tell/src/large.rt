@@ -1,5 +1,5 @@
 //! A large input, made from a number: a bundle of that many zones, and a line for each.
-ghost use Rattle.std.specs.Prelude.{◌≡◌, ℕ, List, ◌+◌, ◌/◌, ◌%◌, ◌<◌, ◌++◌, ◌∷◌, [], codes, Some, IfOk, OnOk};
+ghost use Rattle.std.specs.Prelude.{◌≡◌, ℕ, List, ◌+◌, ◌/◌, ◌%◌, ◌<◌, ◌++◌, ◌∷◌, [], codes, Some, IfOk, OnOk, vec_len, vec_capacity, ◌≤◌};
 ghost use Rattle.resb_tree.specs.declared.resource.Resource.TheVariants as r;
 ghost use Rattle.resb_tree.specs.Header.{tree_of};
 ghost use Rattle.resb_tree.specs.declared.resource.Resource.{Resource};
@@ -135,13 +135,32 @@ fn words(alloc: Global, count: u32) -> Result<Vec<u32>, ResbError>
     draft.write()
 }
 
-// The bytes of words, the low byte first.
+// Appends the bytes of a word, the low byte first, where there is room for them.
+#[inline(always)]
+fn push_word(bytes: &mut Vec<u8>, word: u32)
+    requires { vec_len bytes.old + 4 ≤ vec_capacity bytes.old }
+    ensures items { bytes.new.items ≡ bytes.old.items
+        ++ (word % 256 ∷ word / 256 % 256 ∷ word / 65536 % 256 ∷ word / 16777216 ∷ []) }
+    ensures len { vec_len bytes.new ≡ vec_len bytes.old + 4 }
+    ensures capacity { vec_capacity bytes.new ≡ vec_capacity bytes.old }
+{
+    bytes.push_reserved((word % 256) as u8);
+    bytes.push_reserved((word / 256 % 256) as u8);
+    bytes.push_reserved((word / 65_536 % 256) as u8);
+    bytes.push_reserved((word / 16_777_216) as u8);
+}
+
+// The bytes of words, the low byte first, of which a bundle has 1,048,576 at most.
 fn bytes_of(alloc: Global, words: &[u32]) -> Result<Vec<u8>, AllocError>
     ensures { IfOk result (λ bytes. words_of bytes.items ≡ words.now) }
 {
-    let mut bytes = Vec::with_capacity(alloc, words.len().saturating_mul(4))?;
+    let count = words.len();
+    if count > 1_048_576 {
+        return Err(AllocError);
+    }
+    let mut bytes = Vec::with_capacity(alloc, 4 * count)?;
     for word in words {
-        bytes.extend_from_slice(&word.to_le_bytes())?;
+        push_word(&mut bytes, *word);
     }
     Ok(bytes)
 }
