@@ -141,7 +141,7 @@ base="${tab}1521622800${tab}uk${tab}"
 los_angeles() {
     local zone=America/Los_Angeles
     one_line "$1, 2 days ago" "$3" "1521450000${tab}" "$zone${base}2 days ago" at en "$2"
-    one_line "$1, 2018-03-23 20:00" "$4" "1521860400${tab}" "$zone${base}2018-03-23 20:00" at en "$2"
+    one_line "$1, 2018-03-23 20:00" "$3" "1521860400${tab}" "$zone${base}2018-03-23 20:00" at en "$2"
     one_line "$1, friday 8pm" "$4" "1521860400${tab}" "$zone${base}friday 8pm" at en "$2"
 }
 
@@ -168,20 +168,20 @@ measure_short() {
         echo "skipped: instructions of one line, as valgrind is missing"
         return
     fi
-    one_line "3 items in English" 1100 "1 day 3 hours 46 minutes ago" 100000 ago en
-    one_line "3 items in Japanese" 1100 "" 100000 ago ja
+    one_line "3 items in English" 800 "1 day 3 hours 46 minutes ago" 100000 ago en
+    one_line "3 items in Japanese" 950 "" 100000 ago ja
     one_line "3 items in Russian" 1250 "" 100000 ago ru
     if command -v python3 >/dev/null; then
         python3 "$top/bench/sample_zones.py" rule >"$work/rule.res" || exit 1
         python3 "$top/bench/sample_zones.py" table >"$work/table.res" || exit 1
-        los_angeles "Los Angeles of 3 zones" "$work/rule.res" 2300 2500
+        los_angeles "Los Angeles of 3 zones" "$work/rule.res" 1800 1900
         one_line "a table of 240 entries" 2500 "1521828000${tab}" "Test/Table${base}2018-03-23 20:00" at en "$work/table.res"
     else
         echo "skipped: lines in zones of a small bundle, as python3 is missing"
     fi
     if "$top/tools/icu-bundle" "$work/icu.res" >"$work/said" 2>&1; then
         sed "s|^$work/||" "$work/said"
-        los_angeles "Los Angeles of ICU" "$work/icu.res" 2700 2900
+        los_angeles "Los Angeles of ICU" "$work/icu.res" 2200 2300
         one_line "Lisbon of ICU, in its table" 2900 "637876800${tab}" "Europe/Lisbon${base}1990-03-19 20:00" at en "$work/icu.res"
         each_zone "$work/icu.res"
     else
