@@ -197,3 +197,10 @@ keys_more b at k copies more key x before e same =
     there_append : (xs : List (ℕ × ℕ)) → keys_there b (xs ++ at k ∷ []) ≡ keys_there b xs ++ key_there b (at k).0 ∷ []
     there_append [] = refl
     there_append (x ∷ xs) = ap (λ ks. key_there b x.0 ∷ ks) (there_append xs)
+
+-- ---- two tables
+
+-- keys are the same where they stand at the same places
+pub same_more : (b : Body) (at known : ℕ → ℕ × ℕ) (k count : ℕ) → k < count → (at k).0 ≡ (known k).0 → keys_there b (run at (k + 1) (count - (k + 1))) ≡ keys_there b (run known (k + 1) (count - (k + 1)))
+    → keys_there b (run at k (count - k)) ≡ keys_there b (run known k (count - k))
+same_more b at known k count lt e rest = let n : count - k ≡ suc (count - (k + 1)) = omega arith in rw (n, e, rest) refl

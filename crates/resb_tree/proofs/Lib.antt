@@ -8,5 +8,6 @@ pub mod FirstEntries
 pub mod Limits
 pub mod Within
 pub mod Checks
+pub mod Left
 pub mod KeyPlaces
 pub mod Parts

@@ -4,14 +4,13 @@ ghost use Rattle.resb_tree.specs.Words.{run};
 ghost use Rattle.resb_tree.specs.Forms.{told, item_in, items_end, entry_in, EntriesLie};
 ghost use Rattle.resb_tree.specs.Reading.{Gives};
 ghost use Rattle.resb_tree.specs.Tree.{denoted};
-ghost use Rattle.resb_tree.specs.Inside.Checks.{counted_left, short_text_left, items_left, array_left, key_left, entries_left, table_left, typed_left, left_behind};
+ghost use Rattle.resb_tree.specs.Inside.Checks.{counted_left, short_text_left, items_left, array_left, key_left, entries_left, table_left, nested_left, left_behind};
 ghost use Rattle.resb_tree.specs.Inside.Places.{root_there, IsRoot};
 
 use crate::body::BodyWords;
 use crate::checker::Checker;
 use crate::error::ResbError;
 use crate::forms::{ArrayForm, TableForm};
-use crate::key_places::are_apart;
 use crate::leaves::{short_span, spend};
 use crate::places::{array_count, count_at, entry_at, item_at, no_entries, no_items, table_count};
 use std::alloc::Global;
@@ -24,15 +23,20 @@ pub const DEPTH: u8 = 8;
 
 /// What the values behind the count at `v`, of which `per` fit a word, leave of the limit.
 #[tactic(auto, unfolding(crate::specs::Inside::Checks::counted_left))]
-fn counted_left(body: BodyWords<'_>, v: usize, per: usize, limit: usize) -> Result<usize, ResbError>
+fn counted_left(
+    body: &BodyWords<'_>,
+    v: usize,
+    per: usize,
+    limit: usize,
+) -> Result<usize, ResbError>
     requires per { 0 < per }
     requires small { per ≤ 4 }
-    ensures { Gives (λ x. x) result (counted_left (told body.entry) v per limit) }
+    ensures { Gives (λ x. x) result (counted_left (told body.now) v per limit) }
 {
     if v == 0 {
         return spend(limit, 1);
     }
-    let count = count_at(body, v, per)?;
+    let count = count_at(*body, v, per)?;
     if count >= limit {
         return Err(ResbError::NoTree);
     }
@@ -41,8 +45,8 @@ fn counted_left(body: BodyWords<'_>, v: usize, per: usize, limit: usize) -> Resu
 
 /// What the text at unit `v` of the 16-bit area leaves of the limit.
 #[tactic(auto, unfolding(crate::specs::Inside::Checks::short_text_left))]
-fn short_text_left(body: BodyWords<'_>, v: usize, limit: usize) -> Result<usize, ResbError>
-    ensures { Gives (λ x. x) result (short_text_left (told body.entry) v limit) }
+fn short_text_left(body: &BodyWords<'_>, v: usize, limit: usize) -> Result<usize, ResbError>
+    ensures { Gives (λ x. x) result (short_text_left (told body.now) v limit) }
 {
     let (_, count) = short_span(body, v).ok_or(ResbError::NoTree)?;
     spend(limit, count + 1)
@@ -143,13 +147,37 @@ fn table_left(
     if no_entries(form, v) {
         return Ok(left);
     }
-    let body = checker.body();
-    let count = table_count(body, form, v)?;
+    let count = table_count(checker.body(), form, v)?;
     let rest = entries_left(alloc, checker, form, levels, v, count, left)?;
-    if !are_apart(alloc, body, form, v, count)? {
+    if !checker.are_apart(alloc, form, v, count)? {
         return Err(ResbError::NoTree);
     }
     Ok(rest)
+}
+
+/// What a table or an array of a type and a value leaves of the limit.
+#[cycle(walk)]
+#[tactic(auto, unfolding(crate::specs::Inside::Checks::nested_left))]
+fn nested_left(
+    alloc: Global,
+    checker: &mut Checker<'_>,
+    levels: u8,
+    kind: u32,
+    v: usize,
+    limit: usize,
+) -> Result<usize, ResbError>
+    ensures same { checker.new ≡ checker.old }
+    ensures value { Gives (λ x. x) result
+        (nested_left (left_behind checker.old levels) checker.old kind v limit) }
+{
+    match kind {
+        2 => table_left(alloc, checker, TableForm::Narrow, levels, v, limit),
+        4 => table_left(alloc, checker, TableForm::Wide, levels, v, limit),
+        5 => table_left(alloc, checker, TableForm::Brief, levels, v, limit),
+        8 => array_left(alloc, checker, ArrayForm::Long, levels, v, limit),
+        9 => array_left(alloc, checker, ArrayForm::Short, levels, v, limit),
+        _ => Err(ResbError::NoTree),
+    }
 }
 
 /// What an item leaves of the limit.
@@ -169,19 +197,13 @@ fn item_left(
         return Err(ResbError::NoTree);
     }
     let v = (item % STEP) as usize;
-    let body = checker.body();
     match item / STEP {
-        0 => counted_left(body, v, 2, limit),
-        1 => counted_left(body, v, 4, limit),
-        2 => table_left(alloc, checker, TableForm::Narrow, levels - 1, v, limit),
-        4 => table_left(alloc, checker, TableForm::Wide, levels - 1, v, limit),
-        5 => table_left(alloc, checker, TableForm::Brief, levels - 1, v, limit),
-        6 => short_text_left(body, v, limit),
+        0 => counted_left(checker.seen(), v, 2, limit),
+        1 => counted_left(checker.seen(), v, 4, limit),
+        6 => short_text_left(checker.seen(), v, limit),
         7 => spend(limit, 1),
-        8 => array_left(alloc, checker, ArrayForm::Long, levels - 1, v, limit),
-        9 => array_left(alloc, checker, ArrayForm::Short, levels - 1, v, limit),
-        14 => counted_left(body, v, 1, limit),
-        _ => Err(ResbError::NoTree),
+        14 => counted_left(checker.seen(), v, 1, limit),
+        kind => nested_left(alloc, checker, levels - 1, kind, v, limit),
     }
 }
 

@@ -105,7 +105,7 @@ impl<'a> ResourceRef<'a> {
                 })
             }
             6 => {
-                let (from, count) = short_span(*body, v)?;
+                let (from, count) = short_span(body, v)?;
                 Some(TextRef {
                     words: body.words,
                     from: 2 * body.keys_end + from,

@@ -1,5 +1,5 @@
 //! Keys where they stand in the words of a body, known to end before the keys' end.
-ghost use Rattle.std.specs.Prelude.{◌≡◌, ℕ, ◌+◌, ◌-◌, ◌*◌, ◌<◌, ◌≤◌, length, IfOk, map};
+ghost use Rattle.std.specs.Prelude.{◌≡◌, ℕ, ◌+◌, ◌-◌, ◌*◌, ◌<◌, ◌≤◌, length, IfOk, map, true};
 ghost use Rattle.std.specs.Str.{bytes_eq};
 ghost use Rattle.resb_tree.specs.Words.{run, byte_in};
 ghost use Rattle.resb_tree.specs.Keys.{distinct, stands_in};
@@ -148,4 +148,29 @@ pub fn are_apart(
         return Ok(few_apart(body, form, v, count));
     }
     many_apart(alloc, body, form, v, count)
+}
+
+/// Whether the entries of two tables name the same places of keys, one after the other.
+pub fn same_places(
+    body: BodyWords<'_>,
+    count: usize,
+    form: TableForm,
+    v: usize,
+    other_form: TableForm,
+    other: usize,
+) -> bool
+    requires lie { EntriesLie form (told body) v count }
+    requires other_lie { EntriesLie other_form (told body) other count }
+    ensures { let b = told body.entry in (result ≡ true)
+        → keys_there b (run (entry_in form b v count) 0 count)
+        ≡ keys_there b (run (entry_in other_form b other count) 0 count) }
+{
+    for k in 0..count {
+        let (place, _) = entry_at(body, form, v, count, k);
+        let (known, _) = entry_at(body, other_form, other, count, k);
+        if place != known {
+            return false;
+        }
+    }
+    true
 }

@@ -6,7 +6,7 @@ ghost use Rattle.resb_tree.specs.Reading.{Gives, spent, integer_within, integers
 
 use crate::body::BodyWords;
 use crate::error::ResbError;
-use crate::places::{area_len, area_unit, count_at};
+use crate::places::{area_len, area_unit, area_word, count_at};
 use crate::resource::Resource;
 use crate::words::{bytes_from, units_from, words_from};
 use sqlite_items::Items;
@@ -91,34 +91,40 @@ pub fn bytes_of(
     Ok((Resource::Bytes(bytes), left))
 }
 
-/// The place of the first zero unit of the 16-bit area from `v` on.
+/// The place of the first zero unit in the words of the 16-bit area from one on.
 #[tactic(auto, unfolding(crate::specs::Reading::zero_from))]
-fn zero_unit(body: BodyWords<'_>, v: usize) -> Option<usize>
-    ensures value { result ≡ zero_from (area_unit (told body.entry)) v (area_len (told body.entry) - v) }
-    ensures low { IfSome result (λ stop. v ≤ stop) }
-    ensures high { IfSome result (λ stop. stop < area_len (told body.entry)) }
+fn zero_word(body: &BodyWords<'_>, from: usize) -> Option<usize>
+    ensures value { let b = told body.now in
+        result ≡ zero_from (area_unit b) (2 * from) (area_len b - 2 * from) }
+    ensures low { IfSome result (λ stop. 2 * from ≤ stop) }
+    ensures high { IfSome result (λ stop. stop < area_len (told body.now)) }
 {
-    let len = area_len(body);
-    let mut at = v;
-    while at < len {
-        if at % 2 == 0 && len - at >= 2 {
-            // a whole word
-            let first = at / 2 * 2;
-            if area_unit(body, first) == 0 {
-                return Some(first);
-            }
-            if area_unit(body, first + 1) == 0 {
-                return Some(first + 1);
-            }
-            at = first + 2;
-        } else {
-            if area_unit(body, at) == 0 {
-                return Some(at);
-            }
-            at += 1;
+    for at in from..body.area_end - body.keys_end {
+        let word = area_word(body, at);
+        if word % 65_536 == 0 {
+            return Some(2 * at);
+        }
+        if word < 65_536 {
+            return Some(2 * at + 1);
         }
     }
     None
+}
+
+/// The place of the first zero unit of the 16-bit area from `v` on.
+fn zero_unit(body: &BodyWords<'_>, v: usize) -> Option<usize>
+    requires { v < area_len (told body.now) }
+    ensures value { result ≡ zero_from (area_unit (told body.now)) v (area_len (told body.now) - v) }
+    ensures low { IfSome result (λ stop. v ≤ stop) }
+    ensures high { IfSome result (λ stop. stop < area_len (told body.now)) }
+{
+    if v % 2 == 0 {
+        return zero_word(body, v / 2);
+    }
+    if area_word(body, v / 2) < 65_536 {
+        return Some(v);
+    }
+    zero_word(body, v / 2 + 1)
 }
 
 /// So many units from a place on, where they lie inside the 16-bit area.
@@ -160,19 +166,19 @@ fn told_span(body: BodyWords<'_>, v: usize, first: usize) -> Option<(usize, usiz
 
 /// Where the units of a text of the 16-bit area are, and how many.
 #[tactic(auto, unfolding(crate::specs::Reading::short_span))]
-pub fn short_span(body: BodyWords<'_>, v: usize) -> Option<(usize, usize)>
-    ensures value { result ≡ short_span (told body.entry) v }
-    ensures lies { IfSome result (λ span. span.0 + span.1 ≤ area_len (told body.entry)) }
+pub fn short_span(body: &BodyWords<'_>, v: usize) -> Option<(usize, usize)>
+    ensures value { result ≡ short_span (told body.now) v }
+    ensures lies { IfSome result (λ span. span.0 + span.1 ≤ area_len (told body.now)) }
 {
-    if v >= area_len(body) {
+    if v >= area_len(*body) {
         return None;
     }
-    let first = area_unit(body, v) as usize;
+    let first = area_unit(*body, v) as usize;
     if first < 0xDC00 || 0xDFFF < first {
         let stop = zero_unit(body, v)?;
         return Some((v, stop - v));
     }
-    told_span(body, v, first)
+    told_span(*body, v, first)
 }
 
 /// So many units of the 16-bit area, from one on.
@@ -198,7 +204,7 @@ pub fn short_text_of(
 ) -> Result<(Resource, usize), ResbError>
     ensures { Gives (λ x. x) result (short_text_within (told body.entry) v limit) }
 {
-    let (from, count) = short_span(body, v).ok_or(ResbError::NoTree)?;
+    let (from, count) = short_span(&body, v).ok_or(ResbError::NoTree)?;
     let left = spend(limit, count + 1)?;
     let units = area_units(alloc, body, from, count)?;
     Ok((Resource::Text(units), left))

@@ -1,4 +1,4 @@
-ghost use Rattle.std.specs.Prelude.{◌≡◌, ℕ, ◌+◌, ◌-◌, ◌*◌, ◌/◌, ◌<◌, ◌≤◌, length, slice_index, IfOk};
+ghost use Rattle.std.specs.Prelude.{◌≡◌, ℕ, ◌+◌, ◌-◌, ◌*◌, ◌/◌, ◌%◌, ◌<◌, ◌≤◌, length, slice_index, IfOk};
 ghost use Rattle.resb_tree.specs.Tree.{counted, area_counted, area_len, area_unit, text_item};
 ghost use Rattle.resb_tree.specs.Forms.{told, item_in, items_end, no_items, array_count, entry_in, no_entries, EntriesLie, table_count};
 ghost use Rattle.resb_tree.specs.Reading.{Gives};
@@ -25,6 +25,15 @@ pub fn area_unit(body: BodyWords<'_>, at: usize) -> u16
     ensures { result ≡ area_unit (told body.entry) at }
 {
     unit_at(body.words, 2 * body.keys_end + at)
+}
+
+/// A word of the 16-bit area, which is two of its units.
+pub fn area_word(body: &BodyWords<'_>, at: usize) -> u32
+    requires { 2 * at < area_len (told body.now) }
+    ensures low { area_unit (told body.now) (2 * at) ≡ result % 65536 }
+    ensures high { area_unit (told body.now) (2 * at + 1) ≡ result / 65536 }
+{
+    body.words[body.keys_end + at]
 }
 
 /// A unit of the 16-bit area as the item that it stands for.

@@ -1,12 +1,13 @@
 -- What a walk that only checks leaves of the limit, and the keys that it has met.
-use Rattle.std.specs.Prelude.{◌≡◌, ℕ, zero, suc, ◌+◌, ◌/◌, ◌%◌, ◌<◌, List, [], ◌∷◌, length, map, All, Option, Some, None, if◌then◌else◌, ◌==◌}
+use Rattle.std.specs.Prelude.{◌≡◌, ℕ, zero, suc, ◌+◌, ◌/◌, ◌%◌, ◌<◌, List, [], ◌∷◌, length, map, All, Option, Some, None, true, if◌then◌else◌, ◌==◌}
 use Rattle.resb_tree.specs.Keys.{distinct}
 use Rattle.resb_tree.specs.Words.{run}
 use Rattle.resb_tree.specs.Tree.{◌>>=◌, when, Body, counted, key_at}
-use Rattle.resb_tree.specs.Forms.{item_in, no_items, array_count, entry_in, no_entries, table_count}
+use Rattle.resb_tree.specs.Forms.{item_in, no_items, array_count, entry_in, no_entries, EntriesLie, table_count}
 use Rattle.resb_tree.specs.Reading.{spent, short_span}
 use Rattle.resb_tree.specs.Inside.Places.{key_there, IsKey}
 use Rattle.resb_tree.specs.declared.checker.Met.{Met}
+use Rattle.resb_tree.specs.declared.checker.Apart.{Apart}
 use Rattle.resb_tree.specs.declared.forms.ArrayForm.{ArrayForm}
 use Rattle.resb_tree.specs.declared.forms.ArrayForm.TheVariants as array
 use Rattle.resb_tree.specs.declared.forms.TableForm.{TableForm}
@@ -28,13 +29,27 @@ pub record AreMet (b : Body) (slots : List (Option Met)) : Type 0 where
   pub count : length slots ≡ 256
   pub each : All (IsMet b) slots
 
--- each entry of a table begins with the place of a key
-abbrev pub HaveKeys : Body → TableForm → ℕ → ℕ → Type 0
-HaveKeys b form v count = (k : ℕ) → k < count → IsKey b (entry_in form b v count k).0
-
 -- the keys of entries
 abbrev pub keys_there : Body → List (ℕ × ℕ) → List (List ℕ)
 keys_there b entries = map (λ e. key_there b e.0) entries
+
+-- a table that was met has no two entries with equal keys
+pub record IsApart (b : Body) (met : Apart) : Type 0 where
+  pub lie : EntriesLie met.form b met.v met.count
+  pub apart : distinct (keys_there b (run (entry_in met.form b met.v met.count) 0 met.count)) ≡ true
+
+abbrev pub IsTable : Body → Option Apart → Type 0
+IsTable b None = Unit {0}
+IsTable b (Some met) = IsApart b met
+
+-- the slots of the tables that were met
+pub record AreApart (b : Body) (tables : List (Option Apart)) : Type 0 where
+  pub count : length tables ≡ 16
+  pub each : All (IsTable b) tables
+
+-- each entry of a table begins with the place of a key
+abbrev pub HaveKeys : Body → TableForm → ℕ → ℕ → Type 0
+HaveKeys b form v count = (k : ℕ) → k < count → IsKey b (entry_in form b v count k).0
 
 -- ---- what is left of the limit behind each part
 
@@ -80,19 +95,23 @@ table_left form one b v limit = do
     rest ← entries_left (key_left b) one (run (entry_in form b v count) 0 count) left
     when (distinct (keys_there b (run (entry_in form b v count) 0 count))) rest
 
+-- behind a table or an array of a type and a value
+unfoldable pub nested_left : (ℕ → ℕ → Option ℕ) → Body → ℕ → ℕ → ℕ → Option ℕ
+nested_left one b t v limit =
+    if t == 2 then table_left table.Narrow one b v limit else (
+    if t == 4 then table_left table.Wide one b v limit else (
+    if t == 5 then table_left table.Brief one b v limit else (
+    if t == 8 then array_left array.Long one b v limit else (
+    if t == 9 then array_left array.Short one b v limit else None))))
+
 -- behind an item of a type and a value
 unfoldable pub typed_left : (ℕ → ℕ → Option ℕ) → Body → ℕ → ℕ → ℕ → Option ℕ
 typed_left one b t v limit =
     if t == 0 then counted_left b v 2 limit else (
     if t == 1 then counted_left b v 4 limit else (
-    if t == 2 then table_left table.Narrow one b v limit else (
-    if t == 4 then table_left table.Wide one b v limit else (
-    if t == 5 then table_left table.Brief one b v limit else (
     if t == 6 then short_text_left b v limit else (
     if t == 7 then spent limit 1 else (
-    if t == 8 then array_left array.Long one b v limit else (
-    if t == 9 then array_left array.Short one b v limit else (
-    if t == 14 then counted_left b v 1 limit else None)))))))))
+    if t == 14 then counted_left b v 1 limit else nested_left one b t v limit))))
 
 -- behind an item, with so many levels left, its own among them
 unfoldable pub left_behind : Body → ℕ → ℕ → ℕ → Option ℕ

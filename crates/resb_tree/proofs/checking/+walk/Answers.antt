@@ -31,4 +31,4 @@ entries_left-loop-k-preserved t c =
 pub table_left-are_apart-requires-clause-keys : goal.table_left-are_apart-requires-clause-keys
 table_left-are_apart-requires-clause-keys t c =
     let b = c.args.checker.now in
-    rw c.body-body.ensures (λ k lt. have_keys b (left_behind b c.args.levels) (entry_in c.args.form b c.args.v c.in_ok-count.count) 0 c.in_ok-count.count c.in_ok-left.left c.in_ok-rest.rest c.in_ok-rest.ensures.value k (omega arith) (omega arith))
+    rw c.in_ok-rest.ensures.same (λ k lt. have_keys b (left_behind b c.args.levels) (entry_in c.args.form b c.args.v c.in_ok-count.count) 0 c.in_ok-count.count c.in_ok-left.left c.in_ok-rest.rest c.in_ok-rest.ensures.value k (omega arith) (omega arith))

@@ -5,19 +5,22 @@ use Rattle.resb_tree.specs.Inside.Checks.{items_left, key_left, entries_left, le
 use Rattle.resb_tree.proofs.checking.+walk.Given as goal
 
 abbrev pub decreases-item_left : goal.decreases-item_left
-decreases-item_left l = 3 * l.levels
+decreases-item_left l = 4 * l.levels
 
 abbrev pub decreases-items_left : goal.decreases-items_left
-decreases-items_left l = 3 * l.levels + 1
+decreases-items_left l = 4 * l.levels + 1
 
 abbrev pub decreases-entries_left : goal.decreases-entries_left
-decreases-entries_left l = 3 * l.levels + 1
+decreases-entries_left l = 4 * l.levels + 1
 
 abbrev pub decreases-array_left : goal.decreases-array_left
-decreases-array_left l = 3 * l.levels + 2
+decreases-array_left l = 4 * l.levels + 2
 
 abbrev pub decreases-table_left : goal.decreases-table_left
-decreases-table_left l = 3 * l.levels + 2
+decreases-table_left l = 4 * l.levels + 2
+
+abbrev pub decreases-nested_left : goal.decreases-nested_left
+decreases-nested_left l = 4 * l.levels + 3
 
 -- what is still left behind the items to come is what is left behind all; the body stays
 abbrev pub invariant-items_left-loop-at : goal.invariant-items_left-loop-at

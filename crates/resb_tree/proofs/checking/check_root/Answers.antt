@@ -2,7 +2,8 @@ use Rattle.std.proofs.Common.{ℕ}
 use Rattle.std.proofs.lemmas.Result.{err_from_is_err_and}
 use Rattle.resb_tree.specs.Forms.{told}
 use Rattle.resb_tree.specs.Inside.Places.{root_there}
-use Rattle.resb_tree.proofs.Checks.{err_none, root_found, root_none}
+use Rattle.resb_tree.proofs.Checks.{err_none}
+use Rattle.resb_tree.proofs.Left.{root_found, root_none}
 use Rattle.resb_tree.proofs.checking.check_root.Goals as goal
 
 pub returns-in_err-item_left-clause-value : goal.returns-in_err-item_left-clause-value

@@ -19,9 +19,11 @@ returns-in_err-left-clause-value c =
 
 pub invariant_of-self : goal.invariant_of-self
 invariant_of-self c =
-    let b = told c.self.inside.body in
-    met_more b c.self.inside.slots.items (c.args.place % 256) (record { place = c.args.place; len = c.in_ok-len.field-0 - c.args.place }) c.self.invariant
-    (stopped_length b c.args.place c.in_ok-len.field-0 c.in_ok-len.ensures.value)
+    let b = told c.self.inside.body in (
+      met_more b c.self.inside.slots.items (c.args.place % 256) (record { place = c.args.place; len = c.in_ok-len.field-0 - c.args.place }) c.self.invariant.0
+          (stopped_length b c.args.place c.in_ok-len.field-0 c.in_ok-len.ensures.value),
+      c.self.invariant.1,
+    )
 
 pub returns-clause-value : goal.returns-clause-value
 returns-clause-value c =

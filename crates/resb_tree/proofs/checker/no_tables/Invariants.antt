@@ -1,0 +1,10 @@
+use Rattle.std.proofs.Common.{◌≡◌, All, length}
+use Rattle.resb_tree.specs.Forms.{told}
+use Rattle.resb_tree.specs.Inside.Checks.{IsTable}
+use Rattle.resb_tree.proofs.checker.no_tables.Given as goal
+
+abbrev pub invariant-loop : goal.invariant-loop
+invariant-loop l = record {
+  count : length l.tables.items ≡ l.counter;
+  each : All (IsTable (told l.body)) l.tables.items;
+}
