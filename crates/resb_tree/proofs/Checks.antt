@@ -55,13 +55,6 @@ met_more b slots slot met before found = record {
   each = All-set (IsMet b) slots slot (Some met) found before.each;
 }
 
--- one more table was met
-pub apart_more : (b : Body) (tables : List (Option Apart)) (slot : ℕ) (met : Apart) → AreApart b tables → IsApart b met → AreApart b (slice_set tables slot (Some met))
-apart_more b tables slot met before found = record {
-  count = length-set tables slot (Some met) ∙ before.count;
-  each = All-set (IsTable b) tables slot (Some met) found before.each;
-}
-
 -- one more item was passed
 pub items_on : (one : ℕ → ℕ → Option ℕ) (at : ℕ → ℕ) (end i left rest : ℕ) → i < end → one (at i) left ≡ Some rest
     → items_left one (run at i (end - i)) left ≡ items_left one (run at (i + 1) (end - (i + 1))) rest

@@ -1,20 +1,21 @@
 -- Keys where they stand, byte after byte.
 use Rattle.std.proofs.Common.{◌≡◌, ◌≢◌, ℕ, zero, suc, ◌+◌, ◌-◌, ◌*◌, ◌<◌, ◌≤◌, Bool, true, false, not, ◌&&◌, cond, ltb, eqb, List, [], ◌∷◌, ◌++◌, length, drop, get_or, drop-cons, Some, None, refl, ap, sym, ◌∙◌, inl, inr, append_assoc, add-one, zero-add, arith}
 use Rattle.std.specs.Str.{bytes_eq}
+use Rattle.std.proofs.lemmas.Bool.{ne_eqb}
 use Rattle.std.proofs.lemmas.Bool.Decides.{leb_tells, eqb_tells}
+use Rattle.std.proofs.lemmas.List.{drop_all, append-nil}
 use Rattle.resb_tree.specs.Words.{run, byte_in}
 use Rattle.resb_tree.specs.Keys.{stands_in, distinct, keys_in}
 use Rattle.resb_tree.specs.Tree.{◌>>=◌, Body, key_from, key_at}
 use Rattle.resb_tree.specs.Inside.Places.{key_there, IsKey}
 use Rattle.resb_tree.specs.Inside.Checks.{keys_there}
 use Rattle.resb_tree.proofs.Runs.{run-push}
-use Rattle.resb_tree.proofs.Scans.{ne-eqb}
 use Rattle.resb_tree.proofs.Checks.{bind_some}
 
 key_rest : (byte : ℕ → ℕ) (place more : ℕ) (key : List ℕ) → key_from byte place (suc more) ≡ Some key → byte place ≢ 0
     → (rest : List ℕ) × ((key_from byte (place + 1) more ≡ Some rest) × (byte place ∷ rest ≡ key))
 unfolding key_from
-key_rest byte place more key h nz = by (ltb (byte place) 128) (rw (ne-eqb (byte place) 0 nz) at h)
+key_rest byte place more key h nz = by (ltb (byte place) 128) (rw (ne_eqb (byte place) 0 nz) at h)
   where
     by : (small : Bool) → cond small (key_from byte (place + 1) more >>= λ bs. Some (byte place ∷ bs)) None ≡ Some key
         → (rest : List ℕ) × ((key_from byte (place + 1) more ≡ Some rest) × (byte place ∷ rest ≡ key))
@@ -63,6 +64,9 @@ key_on b place h nz =
     let there : key_there b (place + 1) ≡ more.0 = rw more.1.0 refl in
     record { rest = rw more.1.0 refl; whole = sym more.1.1 ∙ ap (λ (bs : List ℕ). byte_in b.words place ∷ bs) (sym there) }
 
+same_byte : (n : ℕ) → eqb n n ≡ true
+same_byte n = elim (eqb_tells n n) [ inl h ↦ h.0 | inr h ↦ absurd (h.1 refl) ]
+
 -- ---- two keys
 
 -- where both keys end
@@ -76,16 +80,10 @@ both_on b one other h g nz e =
     let first = (key_on b one h nz).whole in
     let nz' : byte_in b.words other ≢ 0 = λ z. nz (sym e ∙ z) in
     let second = (key_on b other g nz').whole in
-    by (rw (first, second, e) (ap (λ t. t && bytes_eq (key_there b (one + 1)) (key_there b (other + 1))) (same (byte_in b.words one))))
-  where
-    same : (n : ℕ) → eqb n n ≡ true
-    same n = elim (eqb_tells n n) [ inl h ↦ h.0 | inr h ↦ absurd (h.1 refl) ]
-
-    by : bytes_eq (key_there b one) (key_there b other) ≡ bytes_eq (key_there b (one + 1)) (key_there b (other + 1)) → bytes_eq (key_there b (one + 1)) (key_there b (other + 1)) ≡ bytes_eq (key_there b one) (key_there b other)
-    by e = sym e
+    rw (first, second, e, same_byte (byte_in b.words one)) refl
 
 apart_at : (x y : ℕ) (xs ys : List ℕ) → x ≢ y → bytes_eq (x ∷ xs) (y ∷ ys) ≡ false
-apart_at x y xs ys ne = rw (ne-eqb x y ne) refl
+apart_at x y xs ys ne = rw (ne_eqb x y ne) refl
 
 -- where they differ
 pub both_differ : (b : Body) (one other : ℕ) → IsKey b one → IsKey b other → byte_in b.words one ≢ byte_in b.words other → bytes_eq (key_there b one) (key_there b other) ≡ false
@@ -101,21 +99,12 @@ both_differ b one other h g ne = elim (eqb_tells (byte_in b.words one) 0) [
 
 -- ---- a key and bytes
 
-nothing_left : (bytes : List ℕ) (i : ℕ) → length bytes ≤ i → drop i bytes ≡ []
-nothing_left [] zero le = refl
-nothing_left [] (suc i) le = refl
-nothing_left (x ∷ xs) zero le = absurd (omega arith)
-nothing_left (x ∷ xs) (suc i) le = nothing_left xs i (omega arith)
-
 -- the key goes on with the next of the bytes
 pub bytes_on : (b : Body) (at i : ℕ) (bytes : List ℕ) → IsKey b at → i < length bytes → byte_in b.words at ≢ 0 → byte_in b.words at ≡ get_or bytes i 0
     → bytes_eq (key_there b at) (drop i bytes) ≡ bytes_eq (key_there b (at + 1)) (drop (i + 1) bytes)
 bytes_on b at i bytes h lt nz e =
     let next : drop i bytes ≡ get_or bytes i 0 ∷ drop (i + 1) bytes = drop-cons bytes i 0 lt ∙ ap (λ n. get_or bytes i 0 ∷ drop n bytes) (sym (add-one i)) in
-    rw ((key_on b at h nz).whole, next, e) (ap (λ t. t && bytes_eq (key_there b (at + 1)) (drop (i + 1) bytes)) (same (get_or bytes i 0)))
-  where
-    same : (n : ℕ) → eqb n n ≡ true
-    same n = elim (eqb_tells n n) [ inl h ↦ h.0 | inr h ↦ absurd (h.1 refl) ]
+    rw ((key_on b at h nz).whole, next, e, same_byte (get_or bytes i 0)) refl
 
 -- the key ends before the bytes
 pub bytes_longer : (b : Body) (at i : ℕ) (bytes : List ℕ) → IsKey b at → i < length bytes → byte_in b.words at ≡ 0 → bytes_eq (key_there b at) (drop i bytes) ≡ false
@@ -132,15 +121,11 @@ bytes_differ b at i bytes h lt nz ne =
 -- behind the bytes, the key must end
 pub bytes_end : (b : Body) (at i : ℕ) (bytes : List ℕ) → IsKey b at → length bytes ≤ i → bytes_eq (key_there b at) (drop i bytes) ≡ eqb (byte_in b.words at) 0
 bytes_end b at i bytes h le = elim (eqb_tells (byte_in b.words at) 0) [
-  | inl z ↦ rw (nothing_left bytes i le, key_ends b at h z.1, z.1) refl
-  | inr nz ↦ rw (nothing_left bytes i le, (key_on b at h nz.1).whole, nz.0) refl
+  | inl z ↦ rw (drop_all i bytes le, key_ends b at h z.1, z.1) refl
+  | inr nz ↦ rw (drop_all i bytes le, (key_on b at h nz.1).whole, nz.0) refl
 ]
 
 -- ---- how long a key is
-
-append_none : {A : Type 0} (xs : List A) → xs ++ [] ≡ xs
-append_none [] = refl
-append_none (x ∷ xs) = ap (λ ys. x ∷ ys) (append_none xs)
 
 -- the bytes before a place, and the key from there on
 pub bytes_before : (b : Body) (place at : ℕ) → place ≤ at → IsKey b at → byte_in b.words at ≢ 0 → run (byte_in b.words) place (at - place) ++ key_there b at ≡ key_there b place
@@ -155,7 +140,7 @@ bytes_before b place at le h nz before =
 
 pub bytes_all : (b : Body) (place at : ℕ) → IsKey b at → byte_in b.words at ≡ 0 → run (byte_in b.words) place (at - place) ++ key_there b at ≡ key_there b place
     → run (byte_in b.words) place (at - place) ≡ key_there b place
-bytes_all b place at h z before = sym (append_none (run (byte_in b.words) place (at - place))) ∙ ap (λ bs. run (byte_in b.words) place (at - place) ++ bs) (sym (key_ends b at h z)) ∙ before
+bytes_all b place at h z before = sym (append-nil (run (byte_in b.words) place (at - place))) ∙ ap (λ bs. run (byte_in b.words) place (at - place) ++ bs) (sym (key_ends b at h z)) ∙ before
 
 -- ---- the keys of a table's entries
 
@@ -169,9 +154,6 @@ pub later_on : (b : Body) (at : ℕ → ℕ × ℕ) (key : List ℕ) (from count
     → stands_in key (keys_there b (run at (from + 1) (count - (from + 1)))) ≡ stands_in key (keys_there b (run at from (count - from)))
 later_on b at key from count lt apart = sym (later_next b at key from count lt ∙ rw apart refl)
 
-pub none_later : (b : Body) (at : ℕ → ℕ × ℕ) (key : List ℕ) (from count : ℕ) → count ≤ from → stands_in key (keys_there b (run at from (count - from))) ≡ false
-none_later b at key from count le = let k : count - from ≡ 0 = omega arith in rw k refl
-
 -- keys differ where the first is none of the others, and those differ
 pub distinct_next : (b : Body) (at : ℕ → ℕ × ℕ) (from count : ℕ) (later : Bool) → from < count → later ≡ stands_in (key_there b (at from).0) (keys_there b (run at (from + 1) (count - (from + 1))))
     → distinct (keys_there b (run at from (count - from))) ≡ cond later false (distinct (keys_there b (run at (from + 1) (count - (from + 1)))))
@@ -180,9 +162,6 @@ distinct_next b at from count later lt e = let k : count - from ≡ suc (count -
     by : (later rest : Bool) → (not later && rest) ≡ cond later false rest
     by true rest = refl
     by false rest = refl
-
-pub distinct_none : (b : Body) (at : ℕ → ℕ × ℕ) (from count : ℕ) → count ≤ from → distinct (keys_there b (run at from (count - from))) ≡ true
-distinct_none b at from count le = let k : count - from ≡ 0 = omega arith in rw k refl
 
 -- one more key was copied
 pub keys_more : {A : Type 0} (b : Body) (at : ℕ → ℕ × ℕ) (k : ℕ) (copies more : List (List ℕ × A)) (key : List ℕ) (x : A) → keys_in copies ≡ keys_there b (run at 0 k) → more ≡ copies ++ (key, x) ∷ [] → key ≡ key_there b (at k).0
@@ -204,3 +183,8 @@ keys_more b at k copies more key x before e same =
 pub same_more : (b : Body) (at known : ℕ → ℕ × ℕ) (k count : ℕ) → k < count → (at k).0 ≡ (known k).0 → keys_there b (run at (k + 1) (count - (k + 1))) ≡ keys_there b (run known (k + 1) (count - (k + 1)))
     → keys_there b (run at k (count - k)) ≡ keys_there b (run known k (count - k))
 same_more b at known k count lt e rest = let n : count - k ≡ suc (count - (k + 1)) = omega arith in rw (n, e, rest) refl
+
+pub distinct_short : (b : Body) (at : ℕ → ℕ × ℕ) (count : ℕ) → count < 2 → true ≡ distinct (keys_there b (run at 0 count))
+distinct_short b at zero lt = refl
+distinct_short b at (suc zero) lt = refl
+distinct_short b at (suc (suc n)) lt = absurd (omega arith)

@@ -2,12 +2,10 @@ pub mod Weights
 pub mod Runs
 pub mod Scans
 pub mod Spans
-pub mod KeyReads
 pub mod KeySets
 pub mod FirstEntries
-pub mod Limits
-pub mod Within
 pub mod Checks
 pub mod Left
 pub mod KeyPlaces
+pub mod LeafParts
 pub mod Parts

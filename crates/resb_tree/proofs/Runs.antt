@@ -9,10 +9,6 @@ run-push at from (suc count) =
     let f : from + suc count ≡ from + 1 + count = omega arith in
     rw (e, f) (ap (λ xs. at from ∷ xs) (run-push at (from + 1) count))
 
-pub run-next : {A : Type 0} (at : ℕ → A) (from count : ℕ) → 0 < count → run at from count ≡ at from ∷ run at (from + 1) (count - 1)
-run-next at from zero h = absurd (omega arith)
-run-next at from (suc count) h = let e : suc count - 1 ≡ count = omega arith in rw e refl
-
 pub length-run : {A : Type 0} (at : ℕ → A) (from count : ℕ) → length (run at from count) ≡ count
 length-run at from zero = refl
 length-run at from (suc count) = ap suc (length-run at (from + 1) count)

@@ -5,7 +5,6 @@ pub mod Tree
 pub mod Header
 pub mod Forms
 pub mod Reading
-pub mod Kept
 pub mod Inside
 pub mod Fields
 pub mod Texts

@@ -168,6 +168,9 @@ impl<'a> Checker<'a> {
         ensures value { IfOk result (λ answer. answer ≡ distinct (keys_there self.old
             (run (entry_in form self.old v count) 0 count))) }
     {
+        if count < 2 {
+            return Ok(true);
+        }
         if is_known(self.body, self.tables.as_slice(), form, v, count) {
             return Ok(true);
         }

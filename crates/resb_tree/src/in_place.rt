@@ -1,5 +1,5 @@
 //! The tree of a bundle, looked at where it stands in the bundle's words: it is checked whole once, and not copied.
-ghost use Rattle.std.specs.Prelude.{◌≡◌};
+ghost use Rattle.std.specs.Prelude.{◌≡◌, IfOk};
 ghost use Rattle.resb_tree.specs.Header.{tree_of};
 ghost use Rattle.resb_tree.specs.Reading.{Gives};
 ghost use Rattle.resb_tree.specs.Fields.{text_in, bytes_in, integers_in, items_in, entries_in};
@@ -9,12 +9,13 @@ use crate::body::BodyWords;
 use crate::checking::{DEPTH, STEP, check_root};
 use crate::counts::count_there;
 use crate::error::ResbError;
-use crate::forms::{ArrayForm, TableForm};
+use crate::forms::{array_form, table_form};
 use crate::leaves::short_span;
 use crate::reading::body_of;
 use crate::refs::{BytesRef, EntriesRef, ItemsRef, TextRef, entries_from, first_with, items_from};
-use crate::resource::sign_extended;
-use std::alloc::Global;
+use crate::resource::{Resource, sign_extended};
+use crate::trees::tree_of;
+use std::alloc::{AllocError, Global};
 use std::marker::Model;
 
 /// A bundle whose words denote a tree, seen as that tree.
@@ -151,27 +152,18 @@ impl<'a> ResourceRef<'a> {
     pub fn items(&self) -> Option<ItemsRef<'a>>
         ensures { result ≡ items_in self.now }
     {
-        let body = self.body;
+        let form = array_form(self.item / STEP)?;
         let v = (self.item % STEP) as usize;
-        match self.item / STEP {
-            8 => Some(items_from(body, ArrayForm::Long, self.levels - 1, v)),
-            9 => Some(items_from(body, ArrayForm::Short, self.levels - 1, v)),
-            _ => None,
-        }
+        Some(items_from(self.body, form, self.levels - 1, v))
     }
 
     /// The entries of a table, in its order.
     pub fn entries(&self) -> Option<EntriesRef<'a>>
         ensures { result ≡ entries_in self.now }
     {
-        let body = self.body;
+        let form = table_form(self.item / STEP)?;
         let v = (self.item % STEP) as usize;
-        match self.item / STEP {
-            2 => Some(entries_from(body, TableForm::Narrow, self.levels - 1, v)),
-            4 => Some(entries_from(body, TableForm::Wide, self.levels - 1, v)),
-            5 => Some(entries_from(body, TableForm::Brief, self.levels - 1, v)),
-            _ => None,
-        }
+        Some(entries_from(self.body, form, self.levels - 1, v))
     }
 
     /// The low 28 bits of an integer, as a number from 0 to 268,435,455.
@@ -205,5 +197,12 @@ impl<'a> ResourceRef<'a> {
             found.count,
             key,
         )
+    }
+
+    /// A copy of it, with its children.
+    pub(crate) fn to_tree(&self, alloc: Global) -> Result<Resource, AllocError>
+        ensures { IfOk result (λ tree. tree ≡ self.now) }
+    {
+        tree_of(alloc, self.body, self.levels, self.item)
     }
 }

@@ -1,15 +1,14 @@
 ghost use Rattle.std.specs.Prelude.{◌≡◌, ℕ, ◌+◌, ◌-◌, ◌*◌, ◌<◌, ◌≤◌, length, IfOk};
-ghost use Rattle.resb_tree.specs.Words.{run, byte_in};
+ghost use Rattle.resb_tree.specs.Words.{byte_in};
 ghost use Rattle.resb_tree.specs.Keys.{stands_in, distinct, keys_in};
 ghost use Rattle.resb_tree.specs.Forms.{told};
-ghost use Rattle.resb_tree.specs.Reading.{Gives, key_stop, key_within};
+ghost use Rattle.resb_tree.specs.Reading.{Gives, key_stop};
 
 use crate::body::BodyWords;
 use crate::error::ResbError;
 use crate::key::Key;
-use crate::leaves::spend;
 use crate::resource::Resource;
-use crate::words::{byte_at, bytes_from};
+use crate::words::byte_at;
 use std::alloc::{AllocError, Global};
 use std::collections::BTreeSet;
 
@@ -34,23 +33,6 @@ pub fn key_stop(body: BodyWords<'_>, place: usize) -> Result<usize, ResbError>
         }
     }
     Err(ResbError::NoTree)
-}
-
-/// The key at a place, and what its bytes leave of the limit.
-#[tactic(auto, unfolding(crate::specs::Reading::key_within))]
-pub fn key_of(
-    alloc: Global,
-    body: BodyWords<'_>,
-    place: usize,
-    limit: usize,
-) -> Result<(Key, usize), ResbError>
-    ensures { Gives (λ x. x) result (key_within (told body.entry) place limit) }
-{
-    let stop = key_stop(body, place)?;
-    let left = spend(limit, stop - place)?;
-    let bytes = bytes_from(alloc, body.words, place, stop - place)?;
-    let key = Key::new(alloc, bytes)?;
-    Ok((key, left))
 }
 
 /// Whether a key is that of one of the entries.

@@ -1,16 +1,11 @@
-ghost use Rattle.std.specs.Prelude.{◌≡◌, ℕ, ◌+◌, ◌-◌, ◌*◌, ◌<◌, ◌≤◌, length, slice_index, IfOk, IfSome};
-ghost use Rattle.resb_tree.specs.Tree.{counted, area_len, area_unit};
-ghost use Rattle.resb_tree.specs.Words.{run};
+ghost use Rattle.std.specs.Prelude.{◌≡◌, ℕ, ◌+◌, ◌-◌, ◌*◌, ◌<◌, ◌≤◌, IfSome};
+ghost use Rattle.resb_tree.specs.Tree.{area_len, area_unit};
 ghost use Rattle.resb_tree.specs.Forms.{told};
-ghost use Rattle.resb_tree.specs.Reading.{Gives, spent, integer_within, integers_within, text_within, bytes_within, zero_from, span_inside, told_span, short_span, short_text_within};
+ghost use Rattle.resb_tree.specs.Reading.{Gives, spent, zero_from, span_inside, told_span, short_span};
 
 use crate::body::BodyWords;
 use crate::error::ResbError;
-use crate::places::{area_len, area_unit, area_word, count_at};
-use crate::resource::Resource;
-use crate::words::{bytes_from, units_from, words_from};
-use sqlite_items::Items;
-use std::alloc::{AllocError, Global};
+use crate::places::{area_len, area_unit, area_word};
 
 /// What is left of the limit on weight.
 pub fn spend(limit: usize, weight: usize) -> Result<usize, ResbError>
@@ -20,75 +15,6 @@ pub fn spend(limit: usize, weight: usize) -> Result<usize, ResbError>
         return Err(ResbError::NoTree);
     }
     Ok(limit - weight)
-}
-
-/// An integer of 28 bits.
-#[tactic(auto, unfolding(crate::specs::Reading::integer_within))]
-pub fn integer_of(v: u32, limit: usize) -> Result<(Resource, usize), ResbError>
-    ensures { Gives (λ x. x) result (integer_within v limit) }
-{
-    let left = spend(limit, 1)?;
-    Ok((Resource::Integer(v), left))
-}
-
-/// The words at `v`.
-#[tactic(auto, unfolding(crate::specs::Reading::integers_within))]
-pub fn integers_of(
-    alloc: Global,
-    body: BodyWords<'_>,
-    v: usize,
-    limit: usize,
-) -> Result<(Resource, usize), ResbError>
-    ensures { Gives (λ x. x) result (integers_within (told body.entry) v limit) }
-{
-    if v == 0 {
-        let left = spend(limit, 1)?;
-        return Ok((Resource::Integers(Items::new(alloc)), left));
-    }
-    let count = count_at(body, v, 1)?;
-    let left = spend(limit, count + 1)?;
-    let values = words_from(alloc, body.words, v + 1, count)?;
-    Ok((Resource::Integers(values), left))
-}
-
-/// The text at `v`.
-#[tactic(auto, unfolding(crate::specs::Reading::text_within))]
-pub fn text_of(
-    alloc: Global,
-    body: BodyWords<'_>,
-    v: usize,
-    limit: usize,
-) -> Result<(Resource, usize), ResbError>
-    ensures { Gives (λ x. x) result (text_within (told body.entry) v limit) }
-{
-    if v == 0 {
-        let left = spend(limit, 1)?;
-        return Ok((Resource::Text(Items::new(alloc)), left));
-    }
-    let count = count_at(body, v, 2)?;
-    let left = spend(limit, count + 1)?;
-    let units = units_from(alloc, body.words, 2 * (v + 1), count)?;
-    Ok((Resource::Text(units), left))
-}
-
-/// The bytes at `v`.
-#[tactic(auto, unfolding(crate::specs::Reading::bytes_within))]
-pub fn bytes_of(
-    alloc: Global,
-    body: BodyWords<'_>,
-    v: usize,
-    limit: usize,
-) -> Result<(Resource, usize), ResbError>
-    ensures { Gives (λ x. x) result (bytes_within (told body.entry) v limit) }
-{
-    if v == 0 {
-        let left = spend(limit, 1)?;
-        return Ok((Resource::Bytes(Items::new(alloc)), left));
-    }
-    let count = count_at(body, v, 4)?;
-    let left = spend(limit, count + 1)?;
-    let bytes = bytes_from(alloc, body.words, 4 * (v + 1), count)?;
-    Ok((Resource::Bytes(bytes), left))
 }
 
 /// The place of the first zero unit in the words of the 16-bit area from one on.
@@ -179,33 +105,4 @@ pub fn short_span(body: &BodyWords<'_>, v: usize) -> Option<(usize, usize)>
         return Some((v, stop - v));
     }
     told_span(*body, v, first)
-}
-
-/// So many units of the 16-bit area, from one on.
-fn area_units(
-    alloc: Global,
-    body: BodyWords<'_>,
-    from: usize,
-    count: usize,
-) -> Result<Items<u16>, AllocError>
-    requires { from + count ≤ area_len (told body) }
-    ensures { IfOk result (λ items. items ≡ run (area_unit (told body.entry)) from count) }
-{
-    units_from(alloc, body.words, 2 * body.keys_end + from, count)
-}
-
-/// The text at unit `v` of the 16-bit area.
-#[tactic(auto, unfolding(crate::specs::Reading::short_text_within))]
-pub fn short_text_of(
-    alloc: Global,
-    body: BodyWords<'_>,
-    v: usize,
-    limit: usize,
-) -> Result<(Resource, usize), ResbError>
-    ensures { Gives (λ x. x) result (short_text_within (told body.entry) v limit) }
-{
-    let (from, count) = short_span(&body, v).ok_or(ResbError::NoTree)?;
-    let left = spend(limit, count + 1)?;
-    let units = area_units(alloc, body, from, count)?;
-    Ok((Resource::Text(units), left))
 }

@@ -8,13 +8,11 @@ mod counts;
 mod error;
 mod forms;
 mod in_place;
-mod items;
 mod key;
 mod key_places;
 mod keys;
 mod leaves;
 mod places;
-mod reader;
 mod reading;
 mod refs;
 mod resource;
@@ -22,6 +20,7 @@ mod resource;
 mod tests;
 #[cfg(test)]
 mod tests_in_place;
+mod trees;
 mod words;
 
 pub use error::ResbError;

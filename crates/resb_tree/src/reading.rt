@@ -5,7 +5,7 @@ ghost use Rattle.resb_tree.specs.Reading.{Gives};
 
 use crate::body::BodyWords;
 use crate::error::ResbError;
-use crate::items::root_tree;
+use crate::in_place::Bundle;
 use crate::resource::Resource;
 use crate::words::byte_at;
 use std::alloc::Global;
@@ -77,10 +77,10 @@ pub fn body_of(words: &[u32]) -> Result<BodyWords<'_>, ResbError>
 }
 
 /// The tree that the words of a bundle denote.
-#[tactic(auto, unfolding(crate::specs::Header::tree_of))]
 pub fn read(alloc: Global, words: &[u32]) -> Result<Resource, ResbError>
     ensures { Gives (λ x. x) result (tree_of words.now) }
 {
-    let body = body_of(words)?;
-    root_tree(alloc, body, 8 * words.len())
+    let bundle = Bundle::open(alloc, words)?;
+    let tree = bundle.root().to_tree(alloc)?;
+    Ok(tree)
 }

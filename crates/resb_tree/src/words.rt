@@ -25,19 +25,6 @@ pub fn unit_at(words: &[u32], at: usize) -> u16
     }
 }
 
-/// So many words, from one on.
-pub fn words_from(
-    alloc: Global,
-    words: &[u32],
-    from: usize,
-    count: usize,
-) -> Result<Items<u32>, AllocError>
-    requires { from + count ≤ length words.now }
-    ensures { IfOk result (λ items. items ≡ run (slice_index words.now) from count) }
-{
-    Items::from_slice(alloc, &words[from..from + count])
-}
-
 /// So many 16-bit units, from one on.
 pub fn units_from(
     alloc: Global,

@@ -1,5 +1,5 @@
 -- How many values, items and entries stand behind a place that has some.
-use Rattle.std.specs.Prelude.{ℕ, ◌*◌, slice_index, if◌then◌else◌, ◌==◌}
+use Rattle.std.specs.Prelude.{ℕ, ◌*◌, slice_index, Option, Some, None, if◌then◌else◌, ◌==◌}
 use Rattle.resb_tree.specs.Words.{unit_in}
 use Rattle.resb_tree.specs.Tree.{Body, area_len, area_unit}
 use Rattle.resb_tree.specs.declared.forms.ArrayForm.{ArrayForm}
@@ -27,3 +27,11 @@ abbrev pub entries_count : TableForm → Body → ℕ → ℕ
 entries_count table.Narrow b v = if v == 0 then 0 else unit_in b.words (2 * v)
 entries_count table.Wide b v = count_there b v
 entries_count table.Brief b v = area_unit b v
+
+-- how the arrays of a type of items stand, where it is one of arrays
+abbrev pub array_form : ℕ → Option ArrayForm
+array_form t = if t == 8 then Some array.Long else (if t == 9 then Some array.Short else None)
+
+-- how the tables of a type of items stand, where it is one of tables
+abbrev pub table_form : ℕ → Option TableForm
+table_form t = if t == 2 then Some table.Narrow else (if t == 4 then Some table.Wide else (if t == 5 then Some table.Brief else None))

@@ -1,6 +1,6 @@
 use Rattle.std.proofs.Common.{sym, arith}
 use Rattle.resb_tree.specs.Forms.{told}
-use Rattle.resb_tree.proofs.Parts.{bytes_here, bytes_none}
+use Rattle.resb_tree.proofs.LeafParts.{bytes_here, bytes_none}
 use Rattle.resb_tree.proofs.in_place.ResourceRef.bytes.Goals as goal
 
 pub returns-then-self-ne1 : goal.returns-then-self-ne1

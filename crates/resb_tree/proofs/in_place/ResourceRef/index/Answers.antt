@@ -1,6 +1,6 @@
 use Rattle.std.proofs.Common.{sym}
 use Rattle.resb_tree.specs.Forms.{told}
-use Rattle.resb_tree.proofs.Parts.{index_here, index_none}
+use Rattle.resb_tree.proofs.LeafParts.{index_here, index_none}
 use Rattle.resb_tree.proofs.in_place.ResourceRef.index.Goals as goal
 
 pub returns-then-self-ne7 : goal.returns-then-self-ne7

@@ -2,7 +2,7 @@ use Rattle.std.proofs.Common.{◌+◌, ◌%◌, ◌≤◌, length, sym, arith}
 use Rattle.resb_tree.specs.Forms.{told}
 use Rattle.resb_tree.specs.Inside.Parts.{count_there}
 use Rattle.resb_tree.proofs.Runs.{slice_run}
-use Rattle.resb_tree.proofs.Parts.{integers_here, integers_none}
+use Rattle.resb_tree.proofs.LeafParts.{integers_here, integers_none}
 use Rattle.resb_tree.proofs.in_place.ResourceRef.integers.Goals as goal
 
 pub returns-then-self-ne14 : goal.returns-then-self-ne14
