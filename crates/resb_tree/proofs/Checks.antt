@@ -13,7 +13,7 @@ use Rattle.resb_tree.specs.Tree.{◌>>=◌, Body, key_at}
 use Rattle.resb_tree.specs.Reading.{Gives, spent, key_stop}
 use Rattle.resb_tree.specs.Inside.Places.{IsKey}
 use Rattle.resb_tree.specs.Inside.Checks.{key_length, IsMet, AreMet, IsApart, IsTable, AreApart, items_left, key_left, entries_left}
-use Rattle.resb_tree.proofs.Runs.{length-run}
+use Rattle.resb_tree.proofs.Runs.{length_run}
 use Rattle.resb_tree.proofs.Spans.{key_span}
 
 -- what a step gave, where the whole gave something
@@ -39,7 +39,7 @@ stop_length b place = ap (λ (key : Option (List ℕ)). key >>= λ k. Some (leng
   where
     by : (stop : Option ℕ) → ((stop >>= λ s. Some (run (byte_in b.words) place (s - place))) >>= λ k. Some (length k)) ≡ (stop >>= λ s. Some (s - place))
     by None = refl
-    by (Some s) = ap (λ (n : ℕ). Some n) (length-run (byte_in b.words) place (s - place))
+    by (Some s) = ap (λ (n : ℕ). Some n) (length_run (byte_in b.words) place (s - place))
 
 pub stopped_length : (b : Body) (place stop : ℕ) → key_stop (byte_in b.words) place (4 * b.keys_end - place) ≡ Some stop → key_length b place ≡ Some (stop - place)
 stopped_length b place stop h = rw (stop_length b place, h) refl

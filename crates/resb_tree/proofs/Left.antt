@@ -18,7 +18,7 @@ use Rattle.resb_tree.specs.Reading.{spent, short_span}
 use Rattle.resb_tree.specs.Inside.Places.{the_tree, root_there, key_there}
 use Rattle.resb_tree.specs.Inside.Checks.{keys_there, counted_left, short_text_left, items_left, array_left, key_left, entries_left, table_left, nested_left, typed_left, left_behind}
 use Rattle.resb_tree.proofs.Weights.{weight-Integer, weight-Integers, weight-Array, weight-Text, weight-Bytes, weight-Table}
-use Rattle.resb_tree.proofs.Runs.{length-run}
+use Rattle.resb_tree.proofs.Runs.{length_run}
 use Rattle.resb_tree.proofs.Spans.{short_text_span}
 
 -- what the weight of what was found leaves of a limit
@@ -77,7 +77,7 @@ values_left : (make : List ℕ → Resource) → ((xs : List ℕ) → weight (ma
 values_left make same at from true count limit = rw (same []) refl
 values_left make same at from false None limit = refl
 values_left make same at from false (Some n) limit =
-    let e : weight (make (run at from n)) ≡ n + 1 = same (run at from n) ∙ omega (arith, length-run at from n) in rw e refl
+    let e : weight (make (run at from n)) ≡ n + 1 = same (run at from n) ∙ omega (arith, length_run at from n) in rw e refl
 
 text_left : (b : Body) (v limit : ℕ) → counted_left b v 2 limit ≡ left_of weight limit (text_at b v)
 unfolding counted_left text_at
@@ -98,7 +98,7 @@ short_left b v limit = rw (short_text_span b v) (by (short_span b v))
     by : (span : Option (ℕ × ℕ)) → (span >>= λ s. spent limit (s.1 + 1)) ≡ left_of weight limit (span >>= λ s. Some (r.Text (run (area_unit b) s.0 s.1)))
     by None = refl
     by (Some s) =
-        let e : weight (r.Text (run (area_unit b) s.0 s.1)) ≡ s.1 + 1 = weight-Text (run (area_unit b) s.0 s.1) ∙ omega (arith, length-run (area_unit b) s.0 s.1) in rw e refl
+        let e : weight (r.Text (run (area_unit b) s.0 s.1)) ≡ s.1 + 1 = weight-Text (run (area_unit b) s.0 s.1) ∙ omega (arith, length_run (area_unit b) s.0 s.1) in rw e refl
 
 -- ---- arrays
 

@@ -9,9 +9,9 @@ run-push at from (suc count) =
     let f : from + suc count ≡ from + 1 + count = omega arith in
     rw (e, f) (ap (λ xs. at from ∷ xs) (run-push at (from + 1) count))
 
-pub length-run : {A : Type 0} (at : ℕ → A) (from count : ℕ) → length (run at from count) ≡ count
-length-run at from zero = refl
-length-run at from (suc count) = ap suc (length-run at (from + 1) count)
+pub length_run : {A : Type 0} (at : ℕ → A) (from count : ℕ) → length (run at from count) ≡ count
+length_run at from zero = refl
+length_run at from (suc count) = ap suc (length_run at (from + 1) count)
 
 take_run : (words : List ℕ) (from count : ℕ) → from + count ≤ length words → take count (drop from words) ≡ run (λ k. get_or words k 0) from count
 take_run words from zero h = refl

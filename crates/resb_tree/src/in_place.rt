@@ -118,6 +118,7 @@ impl<'a> ResourceRef<'a> {
     }
 
     /// The bytes of a list of bytes.
+    #[tactic(auto, using(crate::proofs::LeafParts::bytes_here, crate::proofs::LeafParts::bytes_none))]
     pub fn bytes(&self) -> Option<BytesRef<'a>>
         ensures { result ≡ bytes_in self.now }
     {
@@ -149,6 +150,7 @@ impl<'a> ResourceRef<'a> {
     }
 
     /// The items of an array.
+    #[tactic(auto, using(crate::proofs::LeafParts::tree_is, crate::proofs::LeafParts::items_none, crate::proofs::Parts::array_there, crate::proofs::Parts::array_items))]
     pub fn items(&self) -> Option<ItemsRef<'a>>
         ensures { result ≡ items_in self.now }
     {
@@ -158,6 +160,7 @@ impl<'a> ResourceRef<'a> {
     }
 
     /// The entries of a table, in its order.
+    #[tactic(auto, using(crate::proofs::LeafParts::tree_is, crate::proofs::LeafParts::entries_none, crate::proofs::Parts::table_there, crate::proofs::Parts::table_entries))]
     pub fn entries(&self) -> Option<EntriesRef<'a>>
         ensures { result ≡ entries_in self.now }
     {
@@ -167,6 +170,7 @@ impl<'a> ResourceRef<'a> {
     }
 
     /// The low 28 bits of an integer, as a number from 0 to 268,435,455.
+    #[tactic(auto, using(crate::proofs::LeafParts::index_here, crate::proofs::LeafParts::index_none))]
     pub fn index(&self) -> Option<u32>
         ensures { result ≡ index_in self.now }
     {

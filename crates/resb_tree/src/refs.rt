@@ -198,6 +198,7 @@ pub fn first_with<'a>(
 
 impl<'a> TextRef<'a> {
     /// How many units it has.
+    #[tactic(auto, using(crate::proofs::Runs::length_run))]
     pub fn len(&self) -> usize
         ensures { result ≡ length self.now }
     {
@@ -205,6 +206,7 @@ impl<'a> TextRef<'a> {
     }
 
     /// The unit at a place, counted from 0.
+    #[tactic(auto, using(crate::proofs::Parts::run_get, crate::proofs::Parts::run_past))]
     pub fn get(&self, at: usize) -> Option<u16>
         ensures { result ≡ slice_get self.now at }
     {
@@ -249,6 +251,7 @@ impl<'a> KeyRef<'a> {
 
 impl<'a> ItemsRef<'a> {
     /// How many items the array has.
+    #[tactic(auto, using(crate::proofs::Parts::items_there_length))]
     pub fn len(&self) -> usize
         ensures { result ≡ length self.now }
     {
@@ -256,6 +259,7 @@ impl<'a> ItemsRef<'a> {
     }
 
     /// The item at a place, counted from 0.
+    #[tactic(auto, using(crate::proofs::Parts::item_there, crate::proofs::Parts::items_there_length))]
     pub fn at(&self, place: usize) -> ResourceRef<'a>
         requires { place < length self.now }
         ensures { slice_get self.now place ≡ Some result }
@@ -271,6 +275,7 @@ impl<'a> ItemsRef<'a> {
 
 impl<'a> EntriesRef<'a> {
     /// How many entries the table has.
+    #[tactic(auto, using(crate::proofs::Parts::entries_there_length))]
     pub fn len(&self) -> usize
         ensures { result ≡ length self.now }
     {
@@ -278,6 +283,7 @@ impl<'a> EntriesRef<'a> {
     }
 
     /// The entry at a place, counted from 0.
+    #[tactic(auto, using(crate::proofs::Parts::entry_there, crate::proofs::Parts::entries_there_length))]
     pub fn at(&self, place: usize) -> (KeyRef<'a>, ResourceRef<'a>)
         requires { place < length self.now }
         ensures { slice_get self.now place ≡ Some result }
