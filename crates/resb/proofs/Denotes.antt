@@ -1,16 +1,14 @@
 -- The words that are written for a tree denote it.
-use Rattle.std.proofs.Common.{◌≡◌, ℕ, ◌+◌, ◌*◌, ◌≤◌, Bool, true, false, cond, leb, List, [], ◌∷◌, ◌++◌, length, length-append, Some, Result, Ok, Err, refl, ap, ◌∙◌, subst, arith}
+use Rattle.std.proofs.Common.{◌≡◌, ℕ, ◌+◌, ◌*◌, ◌≤◌, true, false, leb, List, [], ◌∷◌, ◌++◌, length, length-append, Some, refl, ap, ◌∙◌, subst, arith}
 use Rattle.std.specs.Prelude.{slice_index}
 use Rattle.std.proofs.lemmas.Bool.{or_parts, ltb-false, le-leb}
 use Rattle.std.proofs.lemmas.List.{get_or_at}
 use Rattle.resb_tree.specs.declared.resource.Resource.{Resource}
-use Rattle.resb_tree.specs.declared.error.ResbError.{ResbError}
-use Rattle.resb_tree.specs.declared.error.ResbError.TheVariants.{TooLarge, BadKey}
 use Rattle.resb_tree.specs.Keys.{stands_in}
 use Rattle.resb_tree.specs.Weight.{weight}
 use Rattle.resb_tree.specs.Tree.{Body, body, tree_at, denoted}
 use Rattle.resb_tree.specs.Header.{body_of, tree_of}
-use Rattle.resb.specs.Writing.{keys_met, key_pool, pool_bytes, pack_bytes, key_place, laid, most_of, most_entries, header, written_body, written, writing, all_keys, has_bad_key, depth, has_wide_integer, places_of, is_too_large}
+use Rattle.resb.specs.Writing.{keys_met, key_pool, pool_bytes, pack_bytes, key_place, laid, most_of, most_entries, header, written_body, written, all_keys, has_bad_key, depth, has_wide_integer, places_of, is_too_large}
 use Rattle.resb.specs.Laws.{has_typed_parts}
 use Rattle.resb.proofs.PackedWords.{StandIn, stand_front, stand_back, bytes_stand, length-pack_bytes}
 use Rattle.resb.proofs.PoolReads.{met_in_pool, pool_keys, pool_below, pool_read, place_low, Each, each_met, Placed}
@@ -125,14 +123,3 @@ pub denotes : (t : Resource) → has_typed_parts t ≡ true → has_bad_key t �
 denotes t typed good fits =
     let has_room = room t fits in
     of_body (written t) _ (header_is t has_room) ∙ body_read t typed good has_room (stop_low t has_room)
-
-plan_made : (bad large : Bool) (plan words : List ℕ) → (let made : Result (List ℕ) ResbError = cond bad (Err BadKey) (cond large (Err TooLarge) (Ok plan)) in made) ≡ Ok words → (bad ≡ false) × (large ≡ false) × (plan ≡ words)
-plan_made true large plan words h = absurd cc
-plan_made false true plan words h = absurd cc
-plan_made false false plan words h = (refl, refl, cc)
-
--- where words are to be written, they denote the tree
-pub writing_denotes : (t : Resource) (words : List ℕ) → has_typed_parts t ≡ true → writing t ≡ Ok words → tree_of words ≡ Some t
-writing_denotes t words typed h =
-    let made = plan_made (has_bad_key t) (is_too_large t) (written t) words h in
-    subst (λ ws. tree_of ws ≡ Some t) made.2 (denotes t typed made.0 made.1)

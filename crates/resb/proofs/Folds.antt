@@ -7,6 +7,7 @@ use Rattle.resb_tree.specs.declared.resource.Resource.TheOpen.{Resource-F}
 use Rattle.resb_tree.specs.declared.resource.Resource.TheVariants as r
 use Rattle.resb_tree.specs.declared.resource.Resource.TheVariants.{rolls-Integer, rolls-Text, rolls-Bytes, rolls-Integers, rolls-Array, rolls-Table}
 use Rattle.resb_tree.specs.Keys.{distinct, keys_in}
+use Rattle.resb_tree.specs.Weight.{layer_weight, weight, weights, entry_weights, sum_of, entries_sum}
 use Rattle.resb.specs.Plan.{values_in, told_values}
 use Rattle.resb.specs.Writing.{layer_keys, keys_met, entry_keys, item_keys, layer_most, most_entries, most_of, layer_bad, has_bad_key, any_bad, all_keys, layer_depth, depth, layer_wide, has_wide_integer}
 
@@ -94,7 +95,39 @@ pub most_entries-Table : (v : List (List ℕ × Resource)) → most_entries (r.T
 unfolding most_entries
 most_entries-Table v = fold-Table layer_most v ∙ rw (length-told most_entries v, told-values most_entries v) refl
 
-pub ruleset counting_entries = (most_entries-Text, most_entries-Bytes, most_entries-Integers, most_entries-Integer, most_entries-Array, most_entries-Table)
+-- ---- weight
+
+sums : (xs : List Resource) → sum_of (map weight xs) ≡ weights xs
+sums [] = refl
+sums (x ∷ xs) = ap (λ n. weight x + n) (sums xs)
+
+entry_sums : (es : List (List ℕ × Resource)) → entries_sum (told_values weight es) ≡ entry_weights es
+entry_sums [] = refl
+entry_sums (e ∷ es) = ap (λ n. length e.0 + weight e.1 + n) (entry_sums es)
+
+pub weight-Text : (v : List ℕ) → weight (r.Text v) ≡ 1 + length v
+unfolding weight
+weight-Text v = fold-Text layer_weight v
+
+pub weight-Bytes : (v : List ℕ) → weight (r.Bytes v) ≡ 1 + length v
+unfolding weight
+weight-Bytes v = fold-Bytes layer_weight v
+
+pub weight-Integers : (v : List ℕ) → weight (r.Integers v) ≡ 1 + length v
+unfolding weight
+weight-Integers v = fold-Integers layer_weight v
+
+pub weight-Integer : (v : ℕ) → weight (r.Integer v) ≡ 1
+unfolding weight
+weight-Integer v = fold-Integer layer_weight v
+
+pub weight-Array : (v : List Resource) → weight (r.Array v) ≡ 1 + weights v
+unfolding weight
+weight-Array v = fold-Array layer_weight v ∙ ap (λ n. 1 + n) (sums v)
+
+pub weight-Table : (v : List (List ℕ × Resource)) → weight (r.Table v) ≡ 1 + entry_weights v
+unfolding weight
+weight-Table v = fold-Table layer_weight v ∙ ap (λ n. 1 + n) (entry_sums v)
 
 -- ---- depth
 
@@ -121,8 +154,6 @@ depth-Array v = fold-Array layer_depth v
 pub depth-Table : (v : List (List ℕ × Resource)) → depth (r.Table v) ≡ 1 + most_of (map depth (values_in v))
 unfolding depth
 depth-Table v = fold-Table layer_depth v ∙ rw (told-values depth v) refl
-
-pub ruleset depths = (depth-Text, depth-Bytes, depth-Integers, depth-Integer, depth-Array, depth-Table)
 
 -- ---- integers of more than 28 bits
 

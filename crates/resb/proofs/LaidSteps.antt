@@ -7,41 +7,18 @@ use Rattle.std.specs.Prelude.{map, nat_le}
 use Rattle.resb_tree.specs.declared.resource.Resource.{Resource}
 use Rattle.resb_tree.specs.declared.resource.Resource.TheVariants as r
 use Rattle.resb_tree.specs.Keys.{keys_in}
-use Rattle.resb.specs.Plan.{values_in, Fits, FitsAll}
+use Rattle.resb.specs.Plan.{values_in, most_words, Fits, FitsAll}
 use Rattle.resb.specs.Writing.{laid, lay_all, most_of, pack_units}
-use Rattle.resb.proofs.LaidWords.{array_some, table_some, fits-rest, fits_cons, room-array, room-table, array_fits, table_fits, length-pack_units}
+use Rattle.resb.proofs.LaidWords.{array_some, table_some, room-array, room-table, array_fits, table_fits, length-pack_units}
 
-pub no_room : (b : Bool) (n : ℕ) → b ≡ nat_le n 1048570 → b ≡ false → 1048570 < n
-no_room b n e f = elim (leb_tells n 1048570) [
+pub no_room : (b : Bool) (n : ℕ) → b ≡ nat_le n most_words → b ≡ false → most_words < n
+no_room b n e f = elim (leb_tells n most_words) [
   | inl h ↦ absurd (let g : true ≡ false = sym h.0 ∙ sym e ∙ f in cc)
   | inr h ↦ h.1
 ]
 
 pub item_cons : {A : Type 0} (xs : List A) (i : ℕ) (x : A) → i < length xs → x ≡ get_or xs i x → drop i xs ≡ x ∷ drop (i + 1) xs
 item_cons xs i x lt is = drop-cons xs i x lt ∙ rw (add-one, ← is) refl
-
-moved : (base : ℕ) (out new w : List ℕ) → new ≡ out ++ w → base + length new ≡ base + length out + length w
-moved base out new w e = omega (arith, ap length e, length-append out w)
-
-pub words_on : (places : List ℕ → ℕ) (base : ℕ) (x : Resource) (xs : List Resource) (out new all : List ℕ) → new ≡ out ++ (laid x places (base + length out)).0
-    → out ++ (lay_all (map laid (x ∷ xs)) places (base + length out)).0 ≡ all → new ++ (lay_all (map laid xs) places (base + length new)).0 ≡ all
-words_on places base x xs out new all e so_far =
-    let w = (laid x places (base + length out)).0 in
-    let m : base + length new ≡ base + length out + length w = moved base out new w e in
-    rw m (rw e (append_assoc out w (lay_all (map laid xs) places (base + length out + length w)).0 ∙ so_far))
-
-pub items_on : (places : List ℕ → ℕ) (base : ℕ) (x : Resource) (xs : List Resource) (out new found all : List ℕ) (word : ℕ) → new ≡ out ++ (laid x places (base + length out)).0 → word ≡ (laid x places (base + length out)).1
-    → found ++ (lay_all (map laid (x ∷ xs)) places (base + length out)).1 ≡ all → (found ++ word ∷ []) ++ (lay_all (map laid xs) places (base + length new)).1 ≡ all
-items_on places base x xs out new found all word e f so_far =
-    let w = (laid x places (base + length out)).0 in
-    let m : base + length new ≡ base + length out + length w = moved base out new w e in
-    rw (m, f) (append_assoc found ((laid x places (base + length out)).1 ∷ []) (lay_all (map laid xs) places (base + length out + length w)).1 ∙ so_far)
-
-pub fits_on : (places : List ℕ → ℕ) (base : ℕ) (x : Resource) (xs : List Resource) (out new : List ℕ) → new ≡ out ++ (laid x places (base + length out)).0 → FitsAll (x ∷ xs) places (base + length out) → FitsAll xs places (base + length new)
-fits_on places base x xs out new e f =
-    let w = (laid x places (base + length out)).0 in
-    let m : base + length new ≡ base + length out + length w = moved base out new w e in
-    rw m (fits-rest x xs places (base + length out) f)
 
 pub length-lay_all : (xs : List Resource) (places : List ℕ → ℕ) (at : ℕ) → length (lay_all (map laid xs) places at).1 ≡ length xs
 length-lay_all [] places at = refl
@@ -68,7 +45,7 @@ array_item xs places base old out v lt e f =
     rw (array_some xs places (base + length old) lt) (omega (arith, f, ap length e, length-append old inner.0))
 
 pub array_full : (xs : List Resource) (places : List ℕ → ℕ) (base more : ℕ) (old out : List ℕ) → 0 < length xs → out ≡ old ++ (lay_all (map laid xs) places (base + length old)).0
-    → more ≤ length xs + 1 → 1048570 < base + length out + more → Fits (r.Array xs) places (base + length old) → ⊥
+    → more ≤ length xs + 1 → most_words < base + length out + more → Fits (r.Array xs) places (base + length old) → ⊥
 array_full xs places base more old out lt e m full fits =
     let inner = lay_all (map laid xs) places (base + length old) in
     omega (arith, room-array xs places (base + length old) lt fits, ap length e, length-append old inner.0, length-lay_all xs places (base + length old))
@@ -91,43 +68,31 @@ length-values [] = refl
 length-values (e ∷ es) = ap suc (length-values es)
 
 pub table_full : (es : List (List ℕ × Resource)) (places : List ℕ → ℕ) (base : ℕ) (old out : List ℕ) → 0 < length es → out ≡ old ++ (lay_all (map laid (values_in es)) places (base + length old)).0
-    → 1048570 < base + length out + ((length es + 2) / 2 + length es) → Fits (r.Table es) places (base + length old) → ⊥
+    → most_words < base + length out + ((length es + 2) / 2 + length es) → Fits (r.Table es) places (base + length old) → ⊥
 table_full es places base old out lt e full fits =
     let inner = lay_all (map laid (values_in es)) places (base + length old) in
     omega (arith, room-table es places (base + length old) lt fits, ap length e, length-append old inner.0, length-lay_all (values_in es) places (base + length old), length-values es)
 
-pub value_cons : (es : List (List ℕ × Resource)) (i : ℕ) (e : List ℕ × Resource) → i < length es → e ≡ get_or es i e → values_in (drop i es) ≡ e.1 ∷ values_in (drop (i + 1) es)
-value_cons es i e lt is = ap (λ (xs : List (List ℕ × Resource)). values_in xs) (item_cons es i e lt is)
-
-pub has_room : (b : Bool) (n : ℕ) → b ≡ nat_le n 1048570 → b ≡ true → n ≤ 1048570
-has_room b n e f = elim (leb_tells n 1048570) [
+pub has_room : (b : Bool) (n : ℕ) → b ≡ nat_le n most_words → b ≡ true → n ≤ most_words
+has_room b n e f = elim (leb_tells n most_words) [
   | inl h ↦ h.1
   | inr h ↦ absurd (let g : true ≡ false = sym f ∙ e ∙ h.0 in cc)
 ]
 
-pub room_on : (places : List ℕ → ℕ) (base : ℕ) (x : Resource) (out new : List ℕ) → new ≡ out ++ (laid x places (base + length out)).0 → Fits x places (base + length out) → base + length new ≤ 1048570
-room_on places base x out new e f = let w = (laid x places (base + length out)).0 in omega (arith, f.room, moved base out new w e)
-
-pub all_on : (places : List ℕ → ℕ) (base : ℕ) (x : Resource) (xs : List Resource) (out new : List ℕ) → new ≡ out ++ (laid x places (base + length out)).0 → Fits x places (base + length out) → FitsAll xs places (base + length new) → FitsAll (x ∷ xs) places (base + length out)
-all_on places base x xs out new e f g =
-    let w = (laid x places (base + length out)).0 in
-    let m : base + length new ≡ base + length out + length w = moved base out new w e in
-    fits_cons x xs places (base + length out) f (rw m at g)
-
 pub array_fits_behind : (xs : List Resource) (places : List ℕ → ℕ) (base more : ℕ) (old out : List ℕ) → 0 < length xs → out ≡ old ++ (lay_all (map laid xs) places (base + length old)).0
-    → length xs + 1 ≤ more → base + length out + more ≤ 1048570 → FitsAll xs places (base + length old) → Fits (r.Array xs) places (base + length old)
+    → length xs + 1 ≤ more → base + length out + more ≤ most_words → FitsAll xs places (base + length old) → Fits (r.Array xs) places (base + length old)
 array_fits_behind xs places base more old out lt e m room all =
     let at = base + length old in
     let inner = lay_all (map laid xs) places at in
-    let h : at + length (inner.0 ++ length inner.1 ∷ inner.1) ≤ 1048570 = omega (arith, ap length e, length-append old inner.0, length-append inner.0 (length inner.1 ∷ inner.1), length-lay_all xs places at) in
+    let h : at + length (inner.0 ++ length inner.1 ∷ inner.1) ≤ most_words = omega (arith, ap length e, length-append old inner.0, length-append inner.0 (length inner.1 ∷ inner.1), length-lay_all xs places at) in
     array_fits xs places at (rw (array_some xs places at lt) h) all
 
 pub table_fits_behind : (es : List (List ℕ × Resource)) (places : List ℕ → ℕ) (base : ℕ) (old out : List ℕ) → 0 < length es → out ≡ old ++ (lay_all (map laid (values_in es)) places (base + length old)).0
-    → base + length out + ((length es + 2) / 2 + length es) ≤ 1048570 → length es ≤ 65535 → most_of (map places (keys_in es)) ≤ 65535 → FitsAll (values_in es) places (base + length old) → Fits (r.Table es) places (base + length old)
+    → base + length out + ((length es + 2) / 2 + length es) ≤ most_words → length es ≤ 65535 → most_of (map places (keys_in es)) ≤ 65535 → FitsAll (values_in es) places (base + length old) → Fits (r.Table es) places (base + length old)
 table_fits_behind es places base old out lt e room n k all =
     let at = base + length old in
     let inner = lay_all (map laid (values_in es)) places at in
     let units = length es ∷ map places (keys_in es) in
-    let h : at + length (inner.0 ++ pack_units units ++ inner.1) ≤ 1048570 =
+    let h : at + length (inner.0 ++ pack_units units ++ inner.1) ≤ most_words =
     omega (arith, ap length e, length-append old inner.0, length-append (inner.0 ++ pack_units units) inner.1, length-append inner.0 (pack_units units), length-pack_units units, length-map (keys_in es) places, length-map es (λ (e : List ℕ × Resource). e.0), length-lay_all (values_in es) places at, length-values es) in
     table_fits es places at (rw (table_some es places at lt) h) n k all

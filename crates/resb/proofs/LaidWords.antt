@@ -1,14 +1,14 @@
 -- Equations of the words, and how trees fit that stand in another.
 use Rattle.std.proofs.Common.{◌≡◌, ℕ, suc, ◌+◌, ◌*◌, ◌/◌, ◌<◌, ◌≤◌, Bool, true, false, List, [], ◌∷◌, ◌++◌, length, refl, sym, ap, ◌∙◌, max, arith}
 use Rattle.std.proofs.lemmas.List.{length-append, append-nil, map-append, length-map}
-use Rattle.std.proofs.lemmas.Bool.{lt-ltb, le-ltb}
-use Rattle.std.specs.Prelude.{map, nat_lt, IfErr, OnOk, IsErrAnd, Result, Ok, Err, ◌||◌}
+use Rattle.std.proofs.lemmas.Bool.{le-ltb, ltb-false}
+use Rattle.std.specs.Prelude.{map, ◌||◌}
 use Rattle.resb_tree.specs.declared.error.ResbError.{ResbError}
 use Rattle.resb_tree.specs.declared.error.ResbError.TheVariants.{Memory, NoTree, TooLarge, BadKey}
 use Rattle.resb_tree.specs.declared.resource.Resource.{Resource}
 use Rattle.resb_tree.specs.declared.resource.Resource.TheVariants as r
 use Rattle.resb_tree.specs.Keys.{keys_in}
-use Rattle.resb.specs.Plan.{values_in, told_values, no_places, Fits, FitsAll, Refuses}
+use Rattle.resb.specs.Plan.{values_in, told_values, no_places, most_words, Fits, FitsAll, Refuses}
 use Rattle.resb.specs.Writing.{Laid, laid, layer_laid, lay_all, array_laid, table_laid, text_laid, bytes_laid, integers_laid, item, pack_units, pack_bytes, most_of, keys_met, item_keys, entry_keys, has_wide_integer, any_bad}
 use Rattle.resb.proofs.Folds.{fold-Text, fold-Bytes, fold-Integers, fold-Integer, fold-Array, fold-Table, told-values, length-told, keys_met-Text, keys_met-Bytes, keys_met-Integers, keys_met-Integer, keys_met-Array, keys_met-Table, most_entries-Text, most_entries-Bytes, most_entries-Integers, most_entries-Integer, most_entries-Array, most_entries-Table, wide-Text, wide-Bytes, wide-Integers, wide-Integer, wide-Array, wide-Table}
 
@@ -149,7 +149,7 @@ fits-rest x xs places at f = record {
   small = right_false (has_wide_integer x) (any_bad (map has_wide_integer xs)) f.small;
 }
 
-array_inner : (xs : List Resource) (places : List ℕ → ℕ) (at : ℕ) → at + length (laid (r.Array xs) places at).0 ≤ 1048570 → at + length (lay_all (map laid xs) places at).0 ≤ 1048570
+array_inner : (xs : List Resource) (places : List ℕ → ℕ) (at : ℕ) → at + length (laid (r.Array xs) places at).0 ≤ most_words → at + length (lay_all (map laid xs) places at).0 ≤ most_words
 array_inner [] places at h = rw (laid-Array [] places at) at h
 array_inner (x ∷ xs) places at h =
     let inner = lay_all (map laid (x ∷ xs)) places at in
@@ -163,12 +163,12 @@ fits-array xs places at f = record {
   small = rw (wide-Array xs) at f.small;
 }
 
-pub room-array : (xs : List Resource) (places : List ℕ → ℕ) (at : ℕ) → 0 < length xs → Fits (r.Array xs) places at → (let inner = lay_all (map laid xs) places at in at + length inner.0 + (length inner.1 + 1) ≤ 1048570)
+pub room-array : (xs : List Resource) (places : List ℕ → ℕ) (at : ℕ) → 0 < length xs → Fits (r.Array xs) places at → (let inner = lay_all (map laid xs) places at in at + length inner.0 + (length inner.1 + 1) ≤ most_words)
 room-array xs places at h f =
     let inner = lay_all (map laid xs) places at in
     omega (arith, rw (array_some xs places at h) at f.room, length-append inner.0 (length inner.1 ∷ inner.1))
 
-table_inner : (es : List (List ℕ × Resource)) (places : List ℕ → ℕ) (at : ℕ) → at + length (laid (r.Table es) places at).0 ≤ 1048570 → at + length (lay_all (map laid (values_in es)) places at).0 ≤ 1048570
+table_inner : (es : List (List ℕ × Resource)) (places : List ℕ → ℕ) (at : ℕ) → at + length (laid (r.Table es) places at).0 ≤ most_words → at + length (lay_all (map laid (values_in es)) places at).0 ≤ most_words
 table_inner [] places at h = rw (laid-Table [] places at) at h
 table_inner (e ∷ es) places at h =
     let pos : 0 < length (e ∷ es) = omega arith in
@@ -177,7 +177,7 @@ table_inner (e ∷ es) places at h =
     omega (arith, rw (table_some (e ∷ es) places at pos) at h, length-append (inner.0 ++ units) inner.1, length-append inner.0 units)
 
 pub room-table : (es : List (List ℕ × Resource)) (places : List ℕ → ℕ) (at : ℕ) → 0 < length es → Fits (r.Table es) places at
-    → (let inner = lay_all (map laid (values_in es)) places at in at + length inner.0 + ((length es + 2) / 2 + length inner.1) ≤ 1048570)
+    → (let inner = lay_all (map laid (values_in es)) places at in at + length inner.0 + ((length es + 2) / 2 + length inner.1) ≤ most_words)
 room-table es places at h f =
     let inner = lay_all (map laid (values_in es)) places at in
     let units = length es ∷ map places (keys_in es) in
@@ -205,24 +205,24 @@ fits-keys es places at f = omega (arith, rw (keys_met-Table es) at f.near, keys_
 pub fits-count : (es : List (List ℕ × Resource)) (places : List ℕ → ℕ) (at : ℕ) → Fits (r.Table es) places at → length es ≤ 65535
 fits-count es places at f = omega (arith, rw (most_entries-Table es) at f.counts)
 
-pub fits-text : (v : List ℕ) (places : List ℕ → ℕ) (at : ℕ) → Fits (r.Text v) places at → at + length (text_laid v no_places at).0 ≤ 1048570
+pub fits-text : (v : List ℕ) (places : List ℕ → ℕ) (at : ℕ) → Fits (r.Text v) places at → at + length (text_laid v no_places at).0 ≤ most_words
 fits-text v places at f = rw (laid-Text v places at) at f.room
 
-pub fits-bytes : (v : List ℕ) (places : List ℕ → ℕ) (at : ℕ) → Fits (r.Bytes v) places at → at + length (bytes_laid v no_places at).0 ≤ 1048570
+pub fits-bytes : (v : List ℕ) (places : List ℕ → ℕ) (at : ℕ) → Fits (r.Bytes v) places at → at + length (bytes_laid v no_places at).0 ≤ most_words
 fits-bytes v places at f = rw (laid-Bytes v places at) at f.room
 
-pub fits-integers : (v : List ℕ) (places : List ℕ → ℕ) (at : ℕ) → Fits (r.Integers v) places at → at + length (integers_laid v no_places at).0 ≤ 1048570
+pub fits-integers : (v : List ℕ) (places : List ℕ → ℕ) (at : ℕ) → Fits (r.Integers v) places at → at + length (integers_laid v no_places at).0 ≤ most_words
 fits-integers v places at f = rw (laid-Integers v places at) at f.room
 
-pub fits-integer : (v : ℕ) (places : List ℕ → ℕ) (at : ℕ) → 268435456 ≤ v → ¬ Fits (r.Integer v) places at
-fits-integer v places at h f = absurd (let e : nat_lt 268435455 v ≡ true = lt-ltb 268435455 v (omega arith) in let g : nat_lt 268435455 v ≡ false = rw (wide-Integer v) at f.small in cc)
+pub small_integer : (v : ℕ) (places : List ℕ → ℕ) (at : ℕ) → Fits (r.Integer v) places at → v < 268435456
+small_integer v places at f = let low = ltb-false 268435455 v (rw (wide-Integer v) at f.small) in omega (arith, low)
 
 -- ---- what fits, from its parts
 
 both_false : (a b : Bool) → a ≡ false → b ≡ false → (a || b) ≡ false
 both_false a b e f = rw (e, f) refl
 
-pub fits_none : (places : List ℕ → ℕ) (at : ℕ) → at ≤ 1048570 → FitsAll [] places at
+pub fits_none : (places : List ℕ → ℕ) (at : ℕ) → at ≤ most_words → FitsAll [] places at
 fits_none places at h = record { room = omega arith; near = omega arith; counts = omega arith; small = refl }
 
 pub fits_cons : (x : Resource) (xs : List Resource) (places : List ℕ → ℕ) (at : ℕ) → Fits x places at → FitsAll xs places (at + length (laid x places at).0) → FitsAll (x ∷ xs) places at
@@ -233,7 +233,7 @@ fits_cons x xs places at f g = record {
   small = both_false (has_wide_integer x) (any_bad (map has_wide_integer xs)) f.small g.small;
 }
 
-pub array_fits : (xs : List Resource) (places : List ℕ → ℕ) (at : ℕ) → at + length (laid (r.Array xs) places at).0 ≤ 1048570 → FitsAll xs places at → Fits (r.Array xs) places at
+pub array_fits : (xs : List Resource) (places : List ℕ → ℕ) (at : ℕ) → at + length (laid (r.Array xs) places at).0 ≤ most_words → FitsAll xs places at → Fits (r.Array xs) places at
 array_fits xs places at h f = record {
   room = h;
   near = rw (keys_met-Array xs) f.near;
@@ -241,7 +241,7 @@ array_fits xs places at h f = record {
   small = rw (wide-Array xs) f.small;
 }
 
-pub no_array_fits : (xs : List Resource) (places : List ℕ → ℕ) (at : ℕ) → length xs ≡ 0 → at ≤ 1048570 → Fits (r.Array xs) places at
+pub no_array_fits : (xs : List Resource) (places : List ℕ → ℕ) (at : ℕ) → length xs ≡ 0 → at ≤ most_words → Fits (r.Array xs) places at
 no_array_fits [] places at h le = array_fits [] places at (rw (laid-Array [] places at) (omega arith)) (fits_none places at le)
 no_array_fits (x ∷ xs) places at h le = absurd (omega arith)
 
@@ -249,7 +249,7 @@ entries_near : (es : List (List ℕ × Resource)) (places : List ℕ → ℕ) �
 entries_near [] places = omega arith
 entries_near (e ∷ es) places = omega (arith, entries_near es places, most_both places (keys_met e.1) (entry_keys (told_values keys_met es)), most_both places (keys_met e.1) (item_keys (map keys_met (values_in es))))
 
-pub table_fits : (es : List (List ℕ × Resource)) (places : List ℕ → ℕ) (at : ℕ) → at + length (laid (r.Table es) places at).0 ≤ 1048570 → length es ≤ 65535 → most_of (map places (keys_in es)) ≤ 65535 → FitsAll (values_in es) places at → Fits (r.Table es) places at
+pub table_fits : (es : List (List ℕ × Resource)) (places : List ℕ → ℕ) (at : ℕ) → at + length (laid (r.Table es) places at).0 ≤ most_words → length es ≤ 65535 → most_of (map places (keys_in es)) ≤ 65535 → FitsAll (values_in es) places at → Fits (r.Table es) places at
 table_fits es places at h n k f = record {
   room = h;
   near = rw (keys_met-Table es) (omega (arith, f.near, k, entries_near es places));
@@ -257,37 +257,24 @@ table_fits es places at h n k f = record {
   small = rw (wide-Table es) f.small;
 }
 
-pub no_table_fits : (es : List (List ℕ × Resource)) (places : List ℕ → ℕ) (at : ℕ) → length es ≡ 0 → at ≤ 1048570 → Fits (r.Table es) places at
+pub no_table_fits : (es : List (List ℕ × Resource)) (places : List ℕ → ℕ) (at : ℕ) → length es ≡ 0 → at ≤ most_words → Fits (r.Table es) places at
 no_table_fits [] places at h le = table_fits [] places at (rw (laid-Table [] places at) (omega arith)) (omega arith) (omega arith) (fits_none places at le)
 no_table_fits (e ∷ es) places at h le = absurd (omega arith)
 
-pub text_fits : (v : List ℕ) (places : List ℕ → ℕ) (at : ℕ) → at + length (text_laid v no_places at).0 ≤ 1048570 → Fits (r.Text v) places at
+pub text_fits : (v : List ℕ) (places : List ℕ → ℕ) (at : ℕ) → at + length (text_laid v no_places at).0 ≤ most_words → Fits (r.Text v) places at
 text_fits v places at h = record { room = rw (laid-Text v places at) h; near = rw (keys_met-Text v) (omega arith); counts = rw (most_entries-Text v) (omega arith); small = wide-Text v }
 
-pub bytes_fits : (v : List ℕ) (places : List ℕ → ℕ) (at : ℕ) → at + length (bytes_laid v no_places at).0 ≤ 1048570 → Fits (r.Bytes v) places at
+pub bytes_fits : (v : List ℕ) (places : List ℕ → ℕ) (at : ℕ) → at + length (bytes_laid v no_places at).0 ≤ most_words → Fits (r.Bytes v) places at
 bytes_fits v places at h = record { room = rw (laid-Bytes v places at) h; near = rw (keys_met-Bytes v) (omega arith); counts = rw (most_entries-Bytes v) (omega arith); small = wide-Bytes v }
 
-pub integers_fits : (v : List ℕ) (places : List ℕ → ℕ) (at : ℕ) → at + length (integers_laid v no_places at).0 ≤ 1048570 → Fits (r.Integers v) places at
+pub integers_fits : (v : List ℕ) (places : List ℕ → ℕ) (at : ℕ) → at + length (integers_laid v no_places at).0 ≤ most_words → Fits (r.Integers v) places at
 integers_fits v places at h = record { room = rw (laid-Integers v places at) h; near = rw (keys_met-Integers v) (omega arith); counts = rw (most_entries-Integers v) (omega arith); small = wide-Integers v }
 
-pub integer_fits : (v : ℕ) (places : List ℕ → ℕ) (at : ℕ) → v < 268435456 → at ≤ 1048570 → Fits (r.Integer v) places at
+pub integer_fits : (v : ℕ) (places : List ℕ → ℕ) (at : ℕ) → v < 268435456 → at ≤ most_words → Fits (r.Integer v) places at
 integer_fits v places at h le = record { room = rw (laid-Integer v places at) (omega arith); near = rw (keys_met-Integer v) (omega arith); counts = rw (most_entries-Integer v) (omega arith); small = rw (wide-Integer v) (le-ltb 268435455 v (omega arith)) }
 
-pub on_ok : {A : Type 0} (x : Result A ResbError) (P Q : Type 0) → (P → Q) → OnOk x P → OnOk x Q
-on_ok (Ok v) P Q f h = f h
-on_ok (Err e) P Q f h = h
-
-refused_still : (e : ResbError) (P Q : Type 0) → (Q → P) → Refuses P e → Refuses Q e
+pub refused_still : (e : ResbError) (P Q : Type 0) → (Q → P) → Refuses P e → Refuses Q e
 refused_still Memory P Q f h = h
 refused_still NoTree P Q f h = h
 refused_still TooLarge P Q f h = λ q. h (f q)
 refused_still BadKey P Q f h = h
-
-pub refused_too : {A : Type 0} (x : Result A ResbError) (P Q : Type 0) → (Q → P) → IfErr x (Refuses P) → IfErr x (Refuses Q)
-refused_too (Ok x) P Q f h = h
-refused_too (Err e) P Q f h = refused_still e P Q f h
-
--- a refusal that is handed on
-pub refused_on : {A : Type 0} (x : Result A ResbError) (e : ResbError) (P : Type 0) → IsErrAnd x (λ y. y ≡ e) → Refuses P e → IfErr x (Refuses P)
-refused_on (Ok x) e P h was = absurd h
-refused_on (Err y) e P h was = rw h was

@@ -4,16 +4,10 @@ use Rattle.std.specs.Prelude.{map}
 use Rattle.resb_tree.specs.declared.resource.Resource.{Resource}
 use Rattle.resb_tree.specs.declared.resource.Resource.TheVariants as r
 use Rattle.resb_tree.specs.declared.resource.Resource.TheVariants.{rolls-Integer, rolls-Text, rolls-Bytes, rolls-Integers, rolls-Array, rolls-Table}
-use Rattle.resb_tree.specs.Keys.{keys_in}
 use Rattle.resb.specs.Writing.{item, text_laid, bytes_laid, integers_laid, array_laid, table_laid, layer_laid, laid}
 use Rattle.resb.specs.Plan.{values_in}
 use Rattle.resb.proofs.Folds.{fold-Text, fold-Bytes, fold-Integers, fold-Integer, fold-Array, fold-Table}
 use Rattle.resb.specs.Laws.{all_below, all_true, layer_typed, has_typed_parts}
-
--- a part of each entry, after the values were mapped
-pub keys_kept : {A B : Type 0} (f : A → B) (es : List (List ℕ × A)) → map (λ (x : List ℕ × B). x.0) (map (λ (e : List ℕ × A). (e.0, f e.1)) es) ≡ keys_in es
-keys_kept f [] = refl
-keys_kept f (e ∷ es) = ap (λ ks. e.0 ∷ ks) (keys_kept f es)
 
 pub values_mapped : {A B : Type 0} (f : A → B) (es : List (List ℕ × A)) → map (λ (x : List ℕ × B). x.1) (map (λ (e : List ℕ × A). (e.0, f e.1)) es) ≡ map f (values_in es)
 values_mapped f [] = refl
@@ -70,5 +64,3 @@ has_typed_parts-Integer v = fold-Integer layer_typed v
 pub has_typed_parts-Integers : (v : List ℕ) → has_typed_parts (r.Integers v) ≡ true
 unfolding has_typed_parts
 has_typed_parts-Integers v = fold-Integers layer_typed v
-
-pub ruleset typing = (has_typed_parts-Text, has_typed_parts-Bytes, has_typed_parts-Table, has_typed_parts-Integer, has_typed_parts-Array, has_typed_parts-Integers)

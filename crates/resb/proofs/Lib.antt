@@ -8,6 +8,9 @@ pub mod LaidParents
 pub mod Rows
 pub mod RowParts
 pub mod RowParents
+pub mod Rooms
+pub mod Refusals
+pub mod Told
 pub mod PlacedKeys
 pub mod WrittenWords
 pub mod PackedWords
@@ -19,4 +22,3 @@ pub mod GoodKeys
 pub mod Denotes
 pub mod OneZone
 pub mod TypeSizes
-pub mod Within

@@ -3,8 +3,7 @@ use Rattle.std.proofs.Common.{◌≡◌, ℕ, zero, suc, ◌+◌, ◌<◌, ◌�
 use Rattle.std.specs.Str.{bytes_eq}
 use Rattle.resb.specs.Pool.{bare, pool_end}
 use Rattle.resb.specs.Writing.{pool_bytes}
-use Rattle.resb_tree.proofs.KeySets.{bytes_eq_sym}
-use Rattle.resb.proofs.Pools.{told_at, behind}
+use Rattle.resb.proofs.Pools.{bytes_eq_sym, told_at, behind}
 
 here_told : (k q : List ℕ) (ks : List (List ℕ)) (at : ℕ) → bytes_eq k q ≡ true → Some at ≡ told_at (k ∷ ks) at q
 here_told k q ks at e = rw (bytes_eq_sym q k, e) refl

@@ -15,7 +15,12 @@ use Rattle.resb_tree.specs.Tree.{◌>>=◌}
 use Rattle.resb.specs.Pool.{bare, place_of, place_told, pool_end}
 use Rattle.resb.specs.Plan.{added, pooled}
 use Rattle.resb.specs.Writing.{key_place, pool_bytes, first_keys, places_of, most_of}
-use Rattle.resb_tree.proofs.KeySets.{bytes_eq_sym}
+use Rattle.std.specs.Bool.{one_answer}
+
+pub bytes_eq_sym : (xs ys : List ℕ) → bytes_eq xs ys ≡ bytes_eq ys xs
+bytes_eq_sym xs ys =
+    let h = bytes_eq-Decides ys xs in
+    one_answer _ _ (bytes_eq-Decides xs ys) (λ e. sym (h.0 e), λ e. h.1 (sym e))
 
 abbrev pub told_at : List (List ℕ) → ℕ → List ℕ → Option ℕ
 told_at keys at key = cond (stands_in key keys) (Some (key_place keys at key)) None
@@ -134,7 +139,7 @@ placed_cases keys q p false e told = absurd (let f : Some p ≡ (let none : Opti
 pub placed : (keys : List (List ℕ)) (q : List ℕ) (p : ℕ) → Some p ≡ place_told keys q → p ≡ place_of keys q
 placed keys q p told = placed_cases keys q p (stands_in q keys) refl told
 
-unplaced_cases : (keys : List (List ℕ)) (q : List ℕ) (b : Bool) → stands_in q keys ≡ b → (let none : Option ℕ = None in none ≡ cond b (Some (place_of keys q)) none) → stands_in q keys ≡ false
+pub unplaced_cases : (keys : List (List ℕ)) (q : List ℕ) (b : Bool) → stands_in q keys ≡ b → (let none : Option ℕ = None in none ≡ cond b (Some (place_of keys q)) none) → stands_in q keys ≡ false
 unplaced_cases keys q true e told = absurd (let f : (let none : Option ℕ = None in none) ≡ Some (place_of keys q) = told in cc)
 unplaced_cases keys q false e told = e
 

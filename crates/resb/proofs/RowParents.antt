@@ -6,14 +6,13 @@ use Rattle.resb_tree.specs.declared.resource.Resource.{Resource}
 use Rattle.resb_tree.specs.declared.resource.Resource.TheVariants as r
 use Rattle.resb_tree.specs.Keys.{keys_in, distinct}
 use Rattle.resb_tree.specs.Weight.{weight, weights, entry_weights, sum_of}
-use Rattle.resb_tree.proofs.Weights.{weight-Array, weight-Table}
 use Rattle.resb.specs.Plan.{values_in}
 use Rattle.resb.specs.Pool.{place_of}
 use Rattle.resb.specs.Laws.{has_typed_parts}
 use Rattle.resb.specs.Writing.{laid, lay_all, most_of, most_entries, depth, all_keys, has_bad_key}
 use Rattle.resb.specs.Inside.Laying.{IsLaid, Stands}
 use Rattle.resb.specs.Drafts.{Row}
-use Rattle.resb.proofs.Folds.{depth-Array, depth-Table, most_entries-Array, most_entries-Table, bad-Array, bad-Table}
+use Rattle.resb.proofs.Folds.{weight-Array, weight-Table, depth-Array, depth-Table, most_entries-Array, most_entries-Table, bad-Array, bad-Table}
 use Rattle.resb.proofs.Layers.{has_typed_parts-Array, has_typed_parts-Table}
 use Rattle.resb.proofs.LaidSteps.{length-lay_all, length-values, topmost, unstacked}
 use Rattle.resb.proofs.Rows.{front, typed_back, apart_back, counts_both, kept_is, items_split, levels_split, stands, more}
@@ -48,7 +47,7 @@ array_more keys row xs base words items levels left most kept count new item lev
     parent_more keys row xs (r.Array xs) base words items levels left most kept count new item level rest most q n c l d low (depth-Array xs) (omega (arith, w, weight-Array xs))
     (rw (most_entries-Array xs) (counts_both keys row xs base words items levels left most q)) (rw (has_typed_parts-Array xs) (typed_back keys row xs base words items levels left most q)) (rw (bad-Array xs) (apart_back keys row xs base words items levels left most q))
 
-entries_weigh : (es : List (List ℕ × Resource)) → entry_weights es ≡ weights (values_in es) + sum_of (map length (keys_in es))
+pub entries_weigh : (es : List (List ℕ × Resource)) → entry_weights es ≡ weights (values_in es) + sum_of (map length (keys_in es))
 entries_weigh [] = omega arith
 entries_weigh (e ∷ es) = omega (arith, entries_weigh es)
 

@@ -1,22 +1,22 @@
 -- Resources of no others, laid behind what stands, and the words of the last row.
-use Rattle.std.proofs.Common.{◌≡◌, ℕ, ◌+◌, ◌-◌, ◌*◌, ◌<◌, ◌≤◌, true, false, List, [], ◌∷◌, ◌++◌, length, get_or, Some, Ok, refl, sym, ap, ◌∙◌, arith}
+use Rattle.std.proofs.Common.{◌≡◌, ℕ, ◌+◌, ◌-◌, ◌*◌, ◌<◌, ◌≤◌, true, false, List, [], ◌∷◌, ◌++◌, length, get_or, Some, refl, sym, ap, ◌∙◌, arith}
 use Rattle.std.proofs.lemmas.List.{length-append, append-nil}
 use Rattle.std.proofs.lemmas.Bool.{and_parts}
 use Rattle.resb_tree.specs.declared.resource.Resource.{Resource}
 use Rattle.resb_tree.specs.declared.resource.Resource.TheVariants as r
 use Rattle.resb_tree.specs.Header.{tree_of}
-use Rattle.resb.specs.Laws.{has_typed_parts}
-use Rattle.resb.specs.Plan.{no_places, bundle_of}
+use Rattle.resb_tree.specs.Weight.{weight}
+use Rattle.resb.specs.Plan.{no_places, bundle_of, most_words}
 use Rattle.resb.specs.Pool.{place_of, words_end}
-use Rattle.resb.specs.Writing.{text_laid, bytes_laid, integers_laid, laid, most_of, most_entries, places_of, all_keys, key_pool, has_bad_key, has_wide_integer, written, writing}
+use Rattle.resb.specs.Writing.{text_laid, bytes_laid, integers_laid, laid, most_of, most_entries, places_of, all_keys, key_pool, has_bad_key, has_wide_integer, written}
 use Rattle.resb.specs.Inside.Laying.{IsLaid}
 use Rattle.resb.specs.Drafts.{Row}
-use Rattle.resb.proofs.Denotes.{writing_denotes}
+use Rattle.resb.proofs.Denotes.{denotes}
 use Rattle.resb.proofs.LaidWords.{laid-Text, laid-Bytes, laid-Integers, laid-Integer, text_fits, bytes_fits, integers_fits, integer_fits, fits_none, left_false}
 use Rattle.resb.proofs.WrittenWords.{Kept, keeps, written_is, length-written}
 
 pub text_is_laid : (v : List ℕ) (places : List ℕ → ℕ) (base : ℕ) (old new : List ℕ) (told : ℕ) → new ≡ old ++ (text_laid v no_places (base + length old)).0 → told ≡ (text_laid v no_places (base + length old)).1
-    → base + length old + length (text_laid v no_places (base + length old)).0 ≤ 1048570 → IsLaid (r.Text v) places base old new told
+    → base + length old + length (text_laid v no_places (base + length old)).0 ≤ most_words → IsLaid (r.Text v) places base old new told
 text_is_laid v places base old new told w i f = record {
   words = rw (laid-Text v places (base + length old)) w;
   item = rw (laid-Text v places (base + length old)) i;
@@ -24,7 +24,7 @@ text_is_laid v places base old new told w i f = record {
 }
 
 pub bytes_is_laid : (v : List ℕ) (places : List ℕ → ℕ) (base : ℕ) (old new : List ℕ) (told : ℕ) → new ≡ old ++ (bytes_laid v no_places (base + length old)).0 → told ≡ (bytes_laid v no_places (base + length old)).1
-    → base + length old + length (bytes_laid v no_places (base + length old)).0 ≤ 1048570 → IsLaid (r.Bytes v) places base old new told
+    → base + length old + length (bytes_laid v no_places (base + length old)).0 ≤ most_words → IsLaid (r.Bytes v) places base old new told
 bytes_is_laid v places base old new told w i f = record {
   words = rw (laid-Bytes v places (base + length old)) w;
   item = rw (laid-Bytes v places (base + length old)) i;
@@ -32,14 +32,14 @@ bytes_is_laid v places base old new told w i f = record {
 }
 
 pub integers_is_laid : (v : List ℕ) (places : List ℕ → ℕ) (base : ℕ) (old new : List ℕ) (told : ℕ) → new ≡ old ++ (integers_laid v no_places (base + length old)).0 → told ≡ (integers_laid v no_places (base + length old)).1
-    → base + length old + length (integers_laid v no_places (base + length old)).0 ≤ 1048570 → IsLaid (r.Integers v) places base old new told
+    → base + length old + length (integers_laid v no_places (base + length old)).0 ≤ most_words → IsLaid (r.Integers v) places base old new told
 integers_is_laid v places base old new told w i f = record {
   words = rw (laid-Integers v places (base + length old)) w;
   item = rw (laid-Integers v places (base + length old)) i;
   fits = integers_fits v places (base + length old) f;
 }
 
-pub integer_is_laid : (v : ℕ) (places : List ℕ → ℕ) (base : ℕ) (old : List ℕ) → v < 268435456 → base + length old ≤ 1048570 → IsLaid (r.Integer v) places base old old (1879048192 + v)
+pub integer_is_laid : (v : ℕ) (places : List ℕ → ℕ) (base : ℕ) (old : List ℕ) → v < 268435456 → base + length old ≤ most_words → IsLaid (r.Integer v) places base old old (1879048192 + v)
 integer_is_laid v places base old small le = record {
   words = rw (laid-Integer v places (base + length old)) (sym (append-nil old));
   item = rw (laid-Integer v places (base + length old)) refl;
@@ -47,7 +47,7 @@ integer_is_laid v places base old small le = record {
 }
 
 -- an empty row
-pub no_row : (keys : List (List ℕ)) (base : ℕ) → base ≡ words_end keys → most_of (places_of keys 32) ≤ 65535 → all_keys keys ≡ true → base ≤ 1048570 → Row keys [] base [] [] [] 8388608 0
+pub no_row : (keys : List (List ℕ)) (base : ℕ) → base ≡ words_end keys → most_of (places_of keys 32) ≤ 65535 → all_keys keys ≡ true → base ≤ most_words → Row keys [] base [] [] [] 8388608 0
 no_row keys base b n g le = record {
   behind = b;
   near = n;
@@ -86,7 +86,10 @@ row_length t base words items levels left most r =
     let w = root_words t base words items levels left most r in
     length-written t ∙ rw (w, r.behind) refl
 
-row_kept : (t : Resource) (base : ℕ) (words items levels : List ℕ) (left most : ℕ) → Row (key_pool t) (t ∷ []) base words items levels left most → 8388608 - left ≤ 8 * (6 + (base + length words)) → Kept t
+pub row_light : (t : Resource) (base : ℕ) (words items levels : List ℕ) (left most : ℕ) → Row (key_pool t) (t ∷ []) base words items levels left most → 8388608 - left ≤ 8 * (6 + (base + length words)) → weight t ≤ 8 * length (written t)
+row_light t base words items levels left most r light = omega (arith, row_length t base words items levels left most r, light, r.weight)
+
+pub row_kept : (t : Resource) (base : ℕ) (words items levels : List ℕ) (left most : ℕ) → Row (key_pool t) (t ∷ []) base words items levels left most → weight t ≤ 8 * length (written t) → Kept t
 row_kept t base words items levels left most r light =
     let len = row_length t base words items levels left most r in
     let w = root_words t base words items levels left most r in
@@ -97,14 +100,10 @@ row_kept t base words items levels left most r light =
       near = r.near;
       counts = omega (arith, r.fits.counts);
       small = left_false (has_wide_integer t) false r.fits.small;
-      light = omega (arith, len, light, r.weight);
+      light = light;
     }
 
 -- the words denote it
-pub row_denotes : (t : Resource) (base : ℕ) (words items levels : List ℕ) (left most : ℕ) → Row (key_pool t) (t ∷ []) base words items levels left most → 8388608 - left ≤ 8 * (6 + (base + length words)) → tree_of (written t) ≡ Some t
+pub row_denotes : (t : Resource) (base : ℕ) (words items levels : List ℕ) (left most : ℕ) → Row (key_pool t) (t ∷ []) base words items levels left most → weight t ≤ 8 * length (written t) → tree_of (written t) ≡ Some t
 row_denotes t base words items levels left most r light =
-    let k = row_kept t base words items levels left most r light in
-    let good : has_bad_key t ≡ false = left_false (has_bad_key t) false r.apart in
-    let typed : has_typed_parts t ≡ true = (and_parts _ _ r.typed).0 in
-    let plan : writing t ≡ Ok (written t) = rw (good, keeps t k) refl in
-    writing_denotes t (written t) typed plan
+    denotes t (and_parts _ _ r.typed).0 (left_false (has_bad_key t) false r.apart) (keeps t (row_kept t base words items levels left most r light))

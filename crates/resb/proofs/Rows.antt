@@ -34,29 +34,29 @@ items_of_both (x ∷ xs) ys places at =
     let v = (lay_all (map laid xs) places (at + length w)).0 in
     rw (behind_both at w v) (ap (λ z. (laid x places at).1 ∷ z) (items_of_both xs ys places (at + length w)))
 
-fits_both : (xs ys : List Resource) (places : List ℕ → ℕ) (at : ℕ) → FitsAll xs places at → FitsAll ys places (at + length (lay_all (map laid xs) places at).0) → FitsAll (xs ++ ys) places at
+pub fits_both : (xs ys : List Resource) (places : List ℕ → ℕ) (at : ℕ) → FitsAll xs places at → FitsAll ys places (at + length (lay_all (map laid xs) places at).0) → FitsAll (xs ++ ys) places at
 fits_both [] ys places at f g = let e : at + 0 ≡ at = omega arith in rw e at g
 fits_both (x ∷ xs) ys places at f g =
     let w = (laid x places at).0 in
     let v = (lay_all (map laid xs) places (at + length w)).0 in
     fits_cons x (xs ++ ys) places at (fits-first x xs places at f) (fits_both xs ys places (at + length w) (fits-rest x xs places at f) (rw (behind_both at w v) at g))
 
-fits_front : (xs ys : List Resource) (places : List ℕ → ℕ) (at : ℕ) → FitsAll (xs ++ ys) places at → FitsAll xs places at
+pub fits_front : (xs ys : List Resource) (places : List ℕ → ℕ) (at : ℕ) → FitsAll (xs ++ ys) places at → FitsAll xs places at
 fits_front [] ys places at f = fits_none places at (omega (arith, f.room))
 fits_front (x ∷ xs) ys places at f = fits_cons x xs places at (fits-first x (xs ++ ys) places at f) (fits_front xs ys places (at + length (laid x places at).0) (fits-rest x (xs ++ ys) places at f))
 
-fits_back : (xs ys : List Resource) (places : List ℕ → ℕ) (at : ℕ) → FitsAll (xs ++ ys) places at → FitsAll ys places (at + length (lay_all (map laid xs) places at).0)
+pub fits_back : (xs ys : List Resource) (places : List ℕ → ℕ) (at : ℕ) → FitsAll (xs ++ ys) places at → FitsAll ys places (at + length (lay_all (map laid xs) places at).0)
 fits_back [] ys places at f = let e : at + 0 ≡ at = omega arith in rw e f
 fits_back (x ∷ xs) ys places at f =
     let w = (laid x places at).0 in
     let v = (lay_all (map laid xs) places (at + length w)).0 in
     rw (behind_both at w v) (fits_back xs ys places (at + length w) (fits-rest x (xs ++ ys) places at f))
 
-weights_both : (xs ys : List Resource) → weights (xs ++ ys) ≡ weights xs + weights ys
+pub weights_both : (xs ys : List Resource) → weights (xs ++ ys) ≡ weights xs + weights ys
 weights_both [] ys = omega arith
 weights_both (x ∷ xs) ys = omega (arith, weights_both xs ys)
 
-most_both : (f : Resource → ℕ) (xs ys : List Resource) → most_of (map f (xs ++ ys)) ≡ max (most_of (map f xs)) (most_of (map f ys))
+pub most_both : (f : Resource → ℕ) (xs ys : List Resource) → most_of (map f (xs ++ ys)) ≡ max (most_of (map f xs)) (most_of (map f ys))
 most_both f [] ys = omega arith
 most_both f (x ∷ xs) ys = omega (arith, most_both f xs ys)
 
@@ -79,7 +79,7 @@ none_both f (x ∷ xs) ys h g =
     let rest : any_bad (map f (xs ++ ys)) ≡ false = none_both f xs ys both.1 g in
     rw (here, rest) refl
 
-none_parts : (f : Resource → Bool) (xs ys : List Resource) → any_bad (map f (xs ++ ys)) ≡ false → (any_bad (map f xs) ≡ false) × (any_bad (map f ys) ≡ false)
+pub none_parts : (f : Resource → Bool) (xs ys : List Resource) → any_bad (map f (xs ++ ys)) ≡ false → (any_bad (map f xs) ≡ false) × (any_bad (map f ys) ≡ false)
 none_parts f [] ys h = (refl, h)
 none_parts f (x ∷ xs) ys h =
     let both = or_parts (f x) (any_bad (map f (xs ++ ys))) h in

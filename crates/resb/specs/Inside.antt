@@ -1,2 +1,3 @@
 -- What the contracts of private functions speak of: no public promise needs it.
 pub mod Laying
+pub mod Telling

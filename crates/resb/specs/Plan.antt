@@ -1,10 +1,9 @@
 -- The keys' places and the limits of the words that are written.
-use Rattle.std.specs.Prelude.{◌≡◌, ℕ, ◌+◌, ◌-◌, ◌*◌, ◌≤◌, ◌||◌, false, List, [], ◌∷◌, ◌++◌, length, map, Option, Some, None, Result, Ok, Err, if◌then◌else◌, nat_lt}
+use Rattle.std.specs.Prelude.{◌≡◌, ℕ, ◌+◌, ◌≤◌, false, List, [], ◌∷◌, ◌++◌, length, map, Option, Some, None, Result, Ok, Err, if◌then◌else◌, nat_lt}
 use Rattle.resb_tree.specs.Keys.{stands_in}
 use Rattle.resb.specs.Pool.{bare, place_of, pool_end, words_end}
 use Rattle.resb_tree.specs.Tree.{◌>>=◌}
-use Rattle.resb_tree.specs.Weight.{weight}
-use Rattle.resb.specs.Writing.{keys_met, item_keys, pack_bytes, pool_bytes, key_pool, written, laid, lay_all, most_of, most_entries, any_bad, has_wide_integer, header}
+use Rattle.resb.specs.Writing.{keys_met, item_keys, pack_bytes, pool_bytes, key_pool, laid, lay_all, most_of, most_entries, any_bad, has_wide_integer, header}
 use Rattle.resb_tree.specs.declared.error.ResbError.{ResbError}
 use Rattle.resb_tree.specs.declared.error.ResbError.TheVariants.{Memory, NoTree, TooLarge, BadKey}
 use Rattle.resb.specs.declared.pool.KeyPool.{KeyPool}
@@ -57,10 +56,6 @@ table_of entries = r.Table entries
 
 -- ---- limits
 
--- what a weight leaves of a limit, with the greatest number of entries, where depth and weight keep their limits
-abbrev pub within : ℕ → ℕ → ℕ → ℕ → ℕ → Option (ℕ × ℕ)
-within levels limit depth weight most = if nat_lt levels depth || nat_lt limit weight then None else Some (limit - weight, most)
-
 -- the most words of a body: a file has at most 1048576, and 6 are its header
 abbrev pub most_words : ℕ
 most_words = 1048570
@@ -88,11 +83,6 @@ abbrev pub bundle_of : List (List ℕ) → ℕ → ℕ → List ℕ → ℕ → 
 bundle_of keys keys_end root resources most =
     let end = keys_end + length resources in
     header ++ ((root ∷ 7 ∷ keys_end ∷ end ∷ end ∷ most ∷ 0 ∷ keys_end ∷ []) ++ pack_bytes (pool_bytes keys) ++ resources)
-
--- the words stay within the limits, and the tree is not too heavy for them
-pub record Suits (t : Resource) : Type 0 where
-  pub fits : Fits t (place_of (key_pool t)) (keys_end t)
-  pub light : weight t ≤ 8 * length (written t)
 
 -- memory ran out, or the tree is too large, which it is only where it does not fit
 abbrev pub Refuses : Type 0 → ResbError → Type 0

@@ -1,5 +1,5 @@
 -- The pool of keys: where each begins.
-use Rattle.std.specs.Prelude.{ℕ, ◌+◌, List, length, map, Option, Some, None, if◌then◌else◌}
+use Rattle.std.specs.Prelude.{ℕ, ◌+◌, Bool, true, ◌&&◌, List, [], ◌∷◌, length, map, Option, Some, None, if◌then◌else◌}
 use Rattle.std.specs.Borrow.{Bor}
 use Rattle.resb_tree.specs.Keys.{stands_in}
 use Rattle.resb.specs.Writing.{key_place, pool_bytes, pack_bytes}
@@ -23,3 +23,8 @@ place_of keys = key_place keys 32
 -- the byte where a key of the pool begins
 abbrev pub place_told : List (List ℕ) → List ℕ → Option ℕ
 place_told keys key = if stands_in key keys then Some (place_of keys key) else None
+
+-- each of these is one of those
+abbrev pub all_in : List (List ℕ) → List (List ℕ) → Bool
+all_in [] those = true
+all_in (k ∷ ks) those = stands_in k those && all_in ks those

@@ -1,18 +1,24 @@
-ghost use Rattle.std.specs.Prelude.{◌≡◌, ℕ, ◌+◌, ◌≤◌, true, List, [], ◌∷◌, ◌++◌, map, length, drop, OnOk, IfOk, Some};
-ghost use Rattle.resb_tree.specs.Keys.{stands_in, distinct, keys_in};
+ghost use Rattle.std.specs.Prelude.{◌≡◌, ◌≢◌, ℕ, ◌+◌, ◌*◌, ◌<◌, ◌≤◌, true, List, [], ◌∷◌, ◌++◌, map, length, OnOk, IfOk, IfErr, Some};
+ghost use Rattle.resb_tree.specs.Keys.{stands_in, distinct};
 ghost use Rattle.resb_tree.specs.Weight.{sum_of};
-ghost use Rattle.resb.specs.Pool.{bare, words_end};
-ghost use Rattle.resb.specs.Plan.{places_in, values_in, most_words};
-ghost use Rattle.resb.specs.Writing.{most_of, all_keys, first_keys};
+ghost use Rattle.resb.specs.Pool.{all_in, bare, words_end};
+ghost use Rattle.resb.specs.Plan.{places_in, most_words, Refuses};
+ghost use Rattle.resb.specs.Writing.{most_of, places_of, all_keys, first_keys};
 
+use crate::bundle::bundle_words;
 use crate::key_pool::pool_of;
-use crate::laying::{INTEGER, MOST_WORDS, lay_bytes, lay_integers, lay_text};
+use crate::laying::{MOST_WORDS, integer_item, lay_bytes, lay_integers, lay_text};
 use crate::measures::is_key;
 use crate::parents::{Laying, push_array, push_table};
 use crate::pool::KeyPool;
-use crate::writing::{DEPTH, WEIGHT, bundle_words};
 use resb_tree::ResbError;
-use std::alloc::Global;
+use std::alloc::{AllocError, Global};
+
+/// How deep a tree may be.
+const DEPTH: u8 = 8;
+
+/// The most that a tree may weigh: 8 times the most words.
+const WEIGHT: usize = 8_388_608;
 
 /// Whether each key has only bytes from 1 to 127.
 fn are_keys(keys: &[&[u8]]) -> bool
@@ -50,51 +56,56 @@ fn are_distinct(keys: &[&[u8]]) -> bool
     true
 }
 
-/// What a resource with so many parts of its own leaves of the weight.
-fn spent(left: usize, parts: usize) -> Result<usize, ResbError>
-    ensures { IfOk result (λ rest. rest + (1 + parts) ≡ left) }
+/// Whether the pool has each of these keys.
+fn are_known(keys: &[&[u8]], pool: &KeyPool<'_>) -> bool
+    ensures { result ≡ all_in (bare keys.now) (bare pool.now.keys.items) }
 {
-    if parts >= left {
-        return Err(ResbError::TooLarge);
+    for key in keys {
+        let Some(_place) = pool.find(*key) else {
+            return false;
+        };
     }
-    Ok(left - 1 - parts)
+    true
 }
 
-/// Puts the places of a table's keys behind the units, and answers what the table leaves of the weight.
-fn place_keys(
-    keys: &[&[u8]],
-    pool: &KeyPool<'_>,
-    left: usize,
-    units: &mut Vec<u16>,
-) -> Result<usize, ResbError>
-    ensures units { OnOk result
-        (units.new.items ≡ units.old.items ++ map (places_in pool.now) (bare keys.now)) }
-    ensures rest { IfOk result (λ rest. rest + (1 + sum_of (map length (bare keys.now))) ≡ left) }
-    ensures near { OnOk result (most_of (map (places_in pool.now) (bare keys.now)) ≤ 65535) }
-    ensures good { OnOk result
-        (all_keys (bare pool.now.keys.items) ≡ true → all_keys (bare keys.now) ≡ true) }
+/// What the bytes of keys leave of the weight.
+fn without_keys(left: usize, keys: &[&[u8]]) -> Result<usize, ResbError>
+    ensures rest { IfOk result (λ rest. rest + sum_of (map length (bare keys.now)) ≡ left) }
+    ensures refused { IfErr result (Refuses (sum_of (map length (bare keys.now)) ≤ left)) }
 {
-    let mut rest = spent(left, 0)?;
+    let mut rest = left;
     for key in keys {
         if key.len() > rest {
             return Err(ResbError::TooLarge);
         }
         rest -= key.len();
-        let Some(place) = pool.find(*key) else {
-            return Err(ResbError::BadKey);
-        };
-        if place > 65_535 {
-            return Err(ResbError::TooLarge);
-        }
-        units.push(place as u16)?;
     }
     Ok(rest)
+}
+
+/// Puts the places of keys behind the units.
+fn push_places(keys: &[&[u8]], pool: &KeyPool<'_>, units: &mut Vec<u16>) -> Result<(), ResbError>
+    ensures units { OnOk result
+        (units.new.items ≡ units.old.items ++ map (places_in pool.now) (bare keys.now)) }
+    ensures near { OnOk result (most_of (map (places_in pool.now) (bare keys.now)) ≤ 65535) }
+    ensures refused { IfErr result
+        (Refuses (most_of (map (places_in pool.now) (bare keys.now)) ≤ 65535)) }
+{
+    for key in keys {
+        let at = pool.place(*key);
+        if at > 65_535 {
+            return Err(ResbError::TooLarge);
+        }
+        units.push(at as u16)?;
+    }
+    Ok(())
 }
 
 /// The levels of a resource with children of these levels.
 fn level_over(levels: &[u8]) -> Result<u8, ResbError>
     ensures level { IfOk result (λ level. level ≡ 1 + most_of levels.now) }
     ensures shallow { IfOk result (λ level. level ≤ 8) }
+    ensures refused { IfErr result (Refuses (most_of levels.now < 8)) }
 {
     let mut deepest = 0;
     for level in levels {
@@ -110,11 +121,46 @@ fn level_over(levels: &[u8]) -> Result<u8, ResbError>
 fn first_of_last(count: usize, items: usize, levels: usize) -> Result<usize, ResbError>
     ensures kept { IfOk result (λ kept. kept + count ≡ items) }
     ensures levels { IfOk result (λ kept. kept ≤ levels) }
+    ensures refused { IfErr result
+        (λ e. (e ≡ ResbError.NoTree) × (items ≡ levels → items < count)) }
 {
     if count > items || items != levels {
         return Err(ResbError::NoTree);
     }
     Ok(items - count)
+}
+
+/// The item of the one resource.
+fn only_item(items: &[u32]) -> Result<u32, ResbError>
+    ensures item { IfOk result (λ item. items.now ≡ item ∷ []) }
+    ensures refused { IfErr result (λ e. (e ≡ ResbError.NoTree) × (length items.now ≢ 1)) }
+{
+    if items.len() == 1 {
+        return Ok(items[0]);
+    }
+    Err(ResbError::NoTree)
+}
+
+/// That the words stay within the limit.
+fn check_room(base: usize, words: &Vec<u32>) -> Result<(), ResbError>
+    requires { base ≤ most_words }
+    ensures room { OnOk result (base + length words.now.items ≤ most_words) }
+    ensures refused { IfErr result (Refuses (base + length words.now.items ≤ most_words)) }
+{
+    if words.len() > MOST_WORDS - base {
+        return Err(ResbError::TooLarge);
+    }
+    Ok(())
+}
+
+/// Appends an item, and how many levels stand for it.
+fn put(item: u32, level: u8, items: &mut Vec<u32>, levels: &mut Vec<u8>) -> Result<(), AllocError>
+    ensures items { OnOk result (items.new.items ≡ items.old.items ++ item ∷ []) }
+    ensures levels { OnOk result (levels.new.items ≡ levels.old.items ++ level ∷ []) }
+{
+    items.push(item)?;
+    levels.push(level)?;
+    Ok(())
 }
 
 /// Resources that are written as they are told, children before their parent: no tree of them is in memory.
@@ -139,33 +185,14 @@ pub struct Draft<'k> {
     ghost low: { base ≤ most_words },
 }
 
-/// That the words stay within the limit.
-fn check_room(base: usize, words: &Vec<u32>) -> Result<(), ResbError>
-    requires { base ≤ most_words }
-    ensures { OnOk result (base + length words.now.items ≤ most_words) }
-{
-    if words.len() > MOST_WORDS - base {
-        return Err(ResbError::TooLarge);
-    }
-    Ok(())
-}
-
-/// Appends an item, and how many levels stand for it.
-fn put(item: u32, level: u8, items: &mut Vec<u32>, levels: &mut Vec<u8>) -> Result<(), ResbError>
-    ensures items { OnOk result (items.new.items ≡ items.old.items ++ item ∷ []) }
-    ensures levels { OnOk result (levels.new.items ≡ levels.old.items ++ level ∷ []) }
-{
-    items.push(item)?;
-    levels.push(level)?;
-    Ok(())
-}
-
 impl<'k> Draft<'k> {
     ghost use Rattle.resb_tree.specs.declared.resource.Resource.{Resource};
     ghost use Rattle.resb_tree.specs.declared.resource.Resource.TheVariants as r;
     ghost use Rattle.resb_tree.specs.Header.{tree_of};
+    ghost use Rattle.resb_tree.specs.Weight.{weight};
     ghost use Rattle.resb.specs.Writing.{key_pool, written};
-    ghost use Rattle.resb.specs.Drafts.{Holds};
+    ghost use Rattle.resb.specs.Drafts.{Holds, Puts, MakesArray, MakesTable, Unwritten};
+    ghost use Rattle.resb.specs.Inside.Telling.{Names};
 
     /// An empty row. The keys are those of the tree that will be written, in the order in which a walk first meets them, an
     /// entry's key before its value; a key that stands here before does not count.
@@ -178,6 +205,17 @@ impl<'k> Draft<'k> {
         if !are_keys(pool.keys.as_slice()) {
             return Err(ResbError::BadKey);
         }
+        Draft::over(alloc, pool)
+    }
+
+    /// An empty row behind the keys of a pool.
+    pub(crate) fn over(alloc: Global, pool: KeyPool<'k>) -> Result<Draft<'k>, ResbError>
+        requires near { most_of (places_of (bare pool.keys.items) 32) ≤ 65535 }
+        requires good { all_keys (bare pool.keys.items) ≡ true }
+        ensures holds { IfOk result (λ draft. Holds draft (bare pool.entry.keys.items) []) }
+        ensures refused { IfErr result
+            (Refuses (words_end (bare pool.entry.keys.items) ≤ most_words)) }
+    {
         let base = pool.words_end();
         if base > MOST_WORDS {
             return Err(ResbError::TooLarge);
@@ -192,13 +230,27 @@ impl<'k> Draft<'k> {
         })
     }
 
+    /// What a resource with so many parts of its own leaves of the weight.
+    fn without(&self, parts: usize) -> Result<usize, ResbError>
+        ensures room { OnOk result
+            (self.now.base + length self.now.laying.words.items ≤ most_words) }
+        ensures rest { IfOk result (λ rest. rest + (1 + parts) ≡ self.now.left) }
+        ensures refused { IfErr result (Refuses
+            ((self.now.base + length self.now.laying.words.items ≤ most_words)
+            × (1 + parts ≤ self.now.left))) }
+    {
+        check_room(self.base, &self.laying.words)?;
+        if parts >= self.left {
+            return Err(ResbError::TooLarge);
+        }
+        Ok(self.left - 1 - parts)
+    }
+
     /// A text of UTF-16 units.
     pub fn text(&mut self, units: &[u16]) -> Result<(), ResbError>
-        ensures { OnOk result ((keys : List (List ℕ)) (row : List Resource)
-            → Holds self.old keys row → Holds self.new keys (row ++ r.Text units.now ∷ [])) }
+        ensures { Puts self.old self.new (r.Text units.now) result }
     {
-        let left = spent(self.left, units.len())?;
-        check_room(self.base, &self.laying.words)?;
+        let left = self.without(units.len())?;
         let item = lay_text(units, self.base, &mut self.laying.words)?;
         self.left = left;
         put(item, 1, &mut self.laying.items, &mut self.levels)?;
@@ -207,40 +259,31 @@ impl<'k> Draft<'k> {
 
     /// A list of bytes.
     pub fn bytes(&mut self, bytes: &[u8]) -> Result<(), ResbError>
-        ensures { OnOk result ((keys : List (List ℕ)) (row : List Resource)
-            → Holds self.old keys row → Holds self.new keys (row ++ r.Bytes bytes.now ∷ [])) }
+        ensures { Puts self.old self.new (r.Bytes bytes.now) result }
     {
-        let left = spent(self.left, bytes.len())?;
-        check_room(self.base, &self.laying.words)?;
+        let left = self.without(bytes.len())?;
         let item = lay_bytes(bytes, self.base, &mut self.laying.words)?;
         self.left = left;
         put(item, 1, &mut self.laying.items, &mut self.levels)?;
         Ok(())
     }
 
-    /// A number. `TooLarge` also where it passes 268,435,455.
+    /// An integer of 28 bits. `TooLarge` also where it has more.
     pub fn integer(&mut self, value: u32) -> Result<(), ResbError>
-        ensures { OnOk result ((keys : List (List ℕ)) (row : List Resource)
-            → Holds self.old keys row → Holds self.new keys (row ++ r.Integer value ∷ [])) }
+        ensures { Puts self.old self.new (r.Integer value) result }
     {
-        let left = spent(self.left, 0)?;
-        check_room(self.base, &self.laying.words)?;
-        if value >= 268_435_456 {
-            return Err(ResbError::TooLarge);
-        }
-        let item = INTEGER + value;
+        let left = self.without(0)?;
+        let item = integer_item(value)?;
         self.left = left;
         put(item, 1, &mut self.laying.items, &mut self.levels)?;
         Ok(())
     }
 
-    /// A list of numbers of 32 bits.
+    /// A list of integers.
     pub fn integers(&mut self, values: &[u32]) -> Result<(), ResbError>
-        ensures { OnOk result ((keys : List (List ℕ)) (row : List Resource)
-            → Holds self.old keys row → Holds self.new keys (row ++ r.Integers values.now ∷ [])) }
+        ensures { Puts self.old self.new (r.Integers values.now) result }
     {
-        let left = spent(self.left, values.len())?;
-        check_room(self.base, &self.laying.words)?;
+        let left = self.without(values.len())?;
         let item = lay_integers(values, self.base, &mut self.laying.words)?;
         self.left = left;
         put(item, 1, &mut self.laying.items, &mut self.levels)?;
@@ -250,14 +293,11 @@ impl<'k> Draft<'k> {
     /// Makes an array of the last `count` resources, its items. `NoTree` where the row has fewer; `TooLarge` also where the
     /// array is deeper than 8.
     pub fn array(&mut self, count: usize) -> Result<(), ResbError>
-        ensures { OnOk result ((keys : List (List ℕ)) (row items : List Resource)
-            → length items ≡ count → Holds self.old keys (row ++ items)
-            → Holds self.new keys (row ++ r.Array items ∷ [])) }
+        ensures { MakesArray self.old self.new count result }
     {
         let kept = first_of_last(count, self.laying.items.len(), self.levels.len())?;
         let level = level_over(&self.levels.as_slice()[kept..])?;
-        let left = spent(self.left, 0)?;
-        check_room(self.base, &self.laying.words)?;
+        let left = self.without(0)?;
         let item = push_array(kept, self.base, &mut self.laying)?;
         self.levels.truncate(kept);
         self.left = left;
@@ -267,26 +307,34 @@ impl<'k> Draft<'k> {
 
     /// Makes a table of as many of the last resources as there are keys, under these keys. `NoTree` where the row has fewer;
     /// `BadKey` where a key is none of the draft's keys, or stands here twice; `TooLarge` also where the table is deeper than
-    /// 8, or has over 65,535 entries.
+    /// 8, or has over 65,535 entries. Where more than one of these holds, it is one of them.
     pub fn table(&mut self, keys: &[&[u8]]) -> Result<(), ResbError>
-        ensures { OnOk result ((names : List (List ℕ)) (row : List Resource)
-            (entries : List (List ℕ × Resource)) → keys_in entries ≡ bare keys.now
-            → Holds self.old names (row ++ values_in entries)
-            → Holds self.new names (row ++ r.Table entries ∷ [])) }
+        ensures { MakesTable self.old self.new (bare keys.now) result }
     {
-        let count = keys.len();
-        if count > 65_535 {
-            return Err(ResbError::TooLarge);
+        if !are_known(keys, &self.pool) {
+            return Err(ResbError::BadKey);
         }
-        let kept = first_of_last(count, self.laying.items.len(), self.levels.len())?;
-        let level = level_over(&self.levels.as_slice()[kept..])?;
         if !are_distinct(keys) {
             return Err(ResbError::BadKey);
         }
+        self.table_under(keys)
+    }
+
+    /// The same, under keys that are not tested.
+    pub(crate) fn table_under(&mut self, keys: &[&[u8]]) -> Result<(), ResbError>
+        ensures { Names self.old self.new (bare keys.now) result }
+    {
+        let count = keys.len();
+        let kept = first_of_last(count, self.laying.items.len(), self.levels.len())?;
+        if count > 65_535 {
+            return Err(ResbError::TooLarge);
+        }
+        let level = level_over(&self.levels.as_slice()[kept..])?;
+        let rest = self.without(0)?;
+        let left = without_keys(rest, keys)?;
         self.laying.units.clear();
         self.laying.units.push(count as u16)?;
-        let left = place_keys(keys, &self.pool, self.left, &mut self.laying.units)?;
-        check_room(self.base, &self.laying.words)?;
+        push_places(keys, &self.pool, &mut self.laying.units)?;
         let item = push_table(kept, self.base, &mut self.laying)?;
         self.levels.truncate(kept);
         self.most = self.most.max(count as u16);
@@ -303,21 +351,24 @@ impl<'k> Draft<'k> {
             → IfOk result (λ words. words.items ≡ written tree) }
         ensures denoted { (tree : Resource) → Holds self.entry (key_pool tree) (tree ∷ [])
             → IfOk result (λ words. tree_of words.items ≡ Some tree) }
+        ensures light { (tree : Resource) → Holds self.entry (key_pool tree) (tree ∷ [])
+            → OnOk result (weight tree ≤ 8 * length (written tree)) }
+        ensures one { (keys : List (List ℕ)) (row : List Resource) → Holds self.entry keys row
+            → OnOk result (length row ≡ 1) }
+        ensures refused { (keys : List (List ℕ)) (row : List Resource) → Holds self.entry keys row
+            → IfErr result (Unwritten keys row) }
     {
-        let [root] = self.laying.items.as_slice() else {
-            return Err(ResbError::NoTree);
-        };
-        let words = &self.laying.words;
-        check_room(self.base, words)?;
-        let alloc = *words.allocator();
+        let root = only_item(self.laying.items.as_slice())?;
+        check_room(self.base, &self.laying.words)?;
+        let alloc = *self.laying.words.allocator();
         let weighed = WEIGHT.saturating_sub(self.left);
         let most = usize::from(self.most);
         let words = bundle_words(
             alloc,
             &self.pool,
             self.base,
-            *root,
-            words.as_slice(),
+            root,
+            self.laying.words.as_slice(),
             weighed,
             most,
         )?;

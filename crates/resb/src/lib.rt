@@ -1,6 +1,7 @@
 //! Resource trees in words (ICU resource bundle, format 2): their writer, with the reader beside it.
 #![tactic(auto)]
 
+mod bundle;
 mod draft;
 mod key_pool;
 pub mod laws;
@@ -9,7 +10,6 @@ mod measures;
 mod packing;
 mod parents;
 mod pool;
-mod typed;
 #[cfg(test)]
 mod write_tests;
 mod writing;

@@ -1,7 +1,8 @@
 -- Trees whose words stand behind others.
-use Rattle.std.specs.Prelude.{◌≡◌, ℕ, ◌+◌, List, ◌++◌, length, map}
+use Rattle.std.specs.Prelude.{◌≡◌, ℕ, ◌+◌, List, ◌++◌, length, map, Result, Ok, Err}
+use Rattle.resb_tree.specs.declared.error.ResbError.{ResbError}
 use Rattle.resb_tree.specs.declared.resource.Resource.{Resource}
-use Rattle.resb.specs.Plan.{Fits, FitsAll}
+use Rattle.resb.specs.Plan.{Fits, FitsAll, Refuses}
 use Rattle.resb.specs.Writing.{laid, lay_all}
 
 -- a tree stands behind the old words, the first of which is body word `base`, and this is its item
@@ -15,3 +16,8 @@ pub record Stands (ts : List Resource) (places : List ℕ → ℕ) (base : ℕ) 
   pub words : new ≡ old ++ (lay_all (map laid ts) places (base + length old)).0
   pub items : told ≡ (lay_all (map laid ts) places (base + length old)).1
   pub fits : FitsAll ts places (base + length old)
+
+-- a tree was laid behind the old words, and its item is answered; or memory ran out, or the tree does not fit there
+abbrev pub Lays : Resource → (List ℕ → ℕ) → ℕ → List ℕ → List ℕ → Result ℕ ResbError → Type 0
+Lays t places base old new (Ok told) = IsLaid t places base old new told
+Lays t places base old new (Err e) = Refuses (Fits t places (base + length old)) e

@@ -1,14 +1,29 @@
-use Rattle.std.proofs.Common.{rules, ◌≡◌, true, sym, arith}
+use Rattle.std.proofs.Common.{rules, ◌≡◌, true, length, sym, arith}
 use Rattle.resb_tree.specs.declared.resource.Resource.TheVariants as r
-use Rattle.resb_tree.proofs.Weights.{weight-Text}
 use Rattle.resb.specs.Laws.{all_below}
 use Rattle.resb.specs.Pool.{place_of}
-use Rattle.resb.proofs.Folds.{depth-Text, bad-Text, most_entries-Text}
+use Rattle.resb.proofs.Folds.{weight-Text, depth-Text, bad-Text, most_entries-Text}
+use Rattle.resb.proofs.LaidWords.{fits-text, refused_still}
 use Rattle.resb.proofs.Layers.{has_typed_parts-Text}
+use Rattle.resb.proofs.Rooms.{err_on, leaf_heavy, leaf_long}
 use Rattle.resb.proofs.Rows.{more}
 use Rattle.resb.proofs.RowParts.{text_is_laid}
 use Rattle.resb.proofs.TypeSizes.{units_typed}
 use Rattle.resb.proofs.draft.Draft.text.Goals as goal
+
+pub returns-in_err-left : goal.returns-in_err-left
+returns-in_err-left c =
+    let v = c.args.units.now in
+    err_on _ _ _ _ c.from_residual.ensures.1 (leaf_heavy c.args.self.now (r.Text v) (length v) _ (weight-Text v) c.in_err-left.ensures.refused)
+
+pub returns-in_err-item : goal.returns-in_err-item
+returns-in_err-item c =
+    let d = c.args.self.now in
+    let v = c.args.units.now in
+    err_on _ _ _ _ c.from_residual-in_err-item.ensures.1 (leaf_long d (r.Text v) _ (λ places. refused_still _ _ _ (fits-text v places _) c.in_err-item.ensures.refused))
+
+pub returns-in_err-put : goal.returns-in_err-put
+returns-in_err-put c = err_on _ _ _ _ c.from_residual-in_err-put.ensures.1 (λ keys row h. tt)
 
 pub returns : goal.returns
 returns c = λ keys row h.
@@ -19,5 +34,5 @@ returns c = λ keys row h.
       h.0,
       rw (c.in_ok-put.ensures.items, c.in_ok-put.ensures.levels)
           (more keys row d.base d.laying.words.items d.laying.items.items d.levels.items d.left d.most h.1 (r.Text v) c.lay_text.new.out.items c.in_ok-item.item 1 c.in_ok-left.left d.most l (sym (depth-Text v)) (omega arith)
-          (omega (arith, c.in_ok-left.ensures, weight-Text v)) (omega (arith, most_entries-Text v)) (rw (has_typed_parts-Text v) t) (bad-Text v)),
+          (omega (arith, c.in_ok-left.ensures.rest, weight-Text v)) (omega (arith, most_entries-Text v)) (rw (has_typed_parts-Text v) t) (bad-Text v)),
     )

@@ -1,21 +1,49 @@
-use Rattle.std.proofs.Common.{◌≡◌, ◌∙◌, ◌+◌, ◌-◌, ◌*◌, ◌≤◌, ◌∷◌, [], length, get_or, ap, arith}
+use Rattle.std.proofs.Common.{◌≡◌, ◌≢◌, ◌∙◌, ◌+◌, ◌-◌, ◌*◌, ◌≤◌, ◌∷◌, [], length, ap, arith}
 use Rattle.resb.specs.Plan.{bundle_of}
 use Rattle.resb.specs.Writing.{key_pool, written}
-use Rattle.resb.proofs.RowParts.{one_item, row_written, row_denotes}
+use Rattle.resb.proofs.RowParts.{row_written, row_light, row_denotes}
+use Rattle.resb.proofs.Rooms.{row_items, unwritten_err, not_one, no_words, too_heavy}
 use Rattle.resb.proofs.draft.Draft.write.Goals as goal
+
+pub returns-in_err-root-clause-refused : goal.returns-in_err-root-clause-refused
+returns-in_err-root-clause-refused c =
+    let d = c.args.self in
+    let few : length d.laying.items.items ≢ 1 = rw c.as_slice.ensures.value at c.in_err-root.ensures.refused.1 in
+    λ keys row h. unwritten_err c.from_residual.result _ keys row c.from_residual.ensures.1 (not_one d keys row _ h c.in_err-root.ensures.refused.0 few)
+
+pub returns-in_err-check_room-clause-refused : goal.returns-in_err-check_room-clause-refused
+returns-in_err-check_room-clause-refused c =
+    λ keys row h. unwritten_err c.from_residual-in_err-check_room.result _ keys row c.from_residual-in_err-check_room.ensures.1 (no_words c.args.self keys row _ h c.in_err-check_room.ensures.refused)
+
+pub returns-in_err-words-clause-refused : goal.returns-in_err-words-clause-refused
+returns-in_err-words-clause-refused c =
+    let d = c.args.self in
+    let one : d.laying.items.items ≡ c.in_ok-root.root ∷ [] = rw c.as_slice.ensures.value at c.in_ok-root.ensures.item in
+    λ keys row h. unwritten_err c.from_residual-in_err-words.result _ keys row c.from_residual-in_err-words.ensures.1 (too_heavy d keys row _ c.saturating_sub-weighed.result _ c.as_slice-2.result.now h one (omega (arith, c.saturating_sub-weighed.ensures)) c.as_slice-2.ensures.value c.in_err-words.ensures.refused)
 
 pub returns-clause-words : goal.returns-clause-words
 returns-clause-words c =
     let d = c.args.self in
-    let one : d.laying.items.items ≡ get_or d.laying.items.items 0 0 ∷ [] = one_item d.laying.items.items (omega (arith, c.in-len1.len_at_least, ap length c.as_slice.ensures.value)) (omega (arith, c.in-len1.len_below, ap length c.as_slice.ensures.value)) in
+    let one : d.laying.items.items ≡ c.in_ok-root.root ∷ [] = rw c.as_slice.ensures.value at c.in_ok-root.ensures.item in
     λ tree h.
-    let made : c.in_ok-words.words.items ≡ bundle_of (key_pool tree) d.base (get_or d.laying.items.items 0 0) d.laying.words.items d.most = rw (h.0, c.as_slice.ensures.value, c.as_slice-2.ensures.value, c.from-most.ensures) at c.in_ok-words.ensures.words in
-    made ∙ row_written tree d.base d.laying.words.items d.laying.items.items d.levels.items d.left d.most (get_or d.laying.items.items 0 0) h.1 one
+    let made : c.in_ok-words.words.items ≡ bundle_of (key_pool tree) d.base c.in_ok-root.root d.laying.words.items d.most = rw (h.0, c.as_slice-2.ensures.value, c.from-most.ensures) at c.in_ok-words.ensures.words in
+    made ∙ row_written tree d.base d.laying.words.items d.laying.items.items d.levels.items d.left d.most c.in_ok-root.root h.1 one
+
+pub returns-clause-light : goal.returns-clause-light
+returns-clause-light c =
+    let d = c.args.self in
+    let light : 8388608 - d.left ≤ 8 * (6 + (d.base + length d.laying.words.items)) = omega (arith, c.in_ok-words.ensures.light, c.saturating_sub-weighed.ensures, ap length c.as_slice-2.ensures.value) in
+    λ tree h. row_light tree d.base d.laying.words.items d.laying.items.items d.levels.items d.left d.most h.1 light
 
 pub returns-clause-denoted : goal.returns-clause-denoted
 returns-clause-denoted c =
     let d = c.args.self in
-    let light : 8388608 - d.left ≤ 8 * (6 + (d.base + length d.laying.words.items)) = omega (arith, c.in_ok-words.ensures.light, c.saturating_sub-weighed.ensures, ap length c.as_slice-2.ensures.value) in
     λ tree h.
     let made : c.in_ok-words.words.items ≡ written tree = returns-clause-words c tree h in
-    rw made (row_denotes tree d.base d.laying.words.items d.laying.items.items d.levels.items d.left d.most h.1 light)
+    rw made (row_denotes tree d.base d.laying.words.items d.laying.items.items d.levels.items d.left d.most h.1 (returns-clause-light c tree h))
+
+pub returns-clause-one : goal.returns-clause-one
+returns-clause-one c =
+    let d = c.args.self in
+    let one : d.laying.items.items ≡ c.in_ok-root.root ∷ [] = rw c.as_slice.ensures.value at c.in_ok-root.ensures.item in
+    λ keys row h. omega (arith, row_items d keys row h, ap length one)
