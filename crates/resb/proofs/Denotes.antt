@@ -1,19 +1,20 @@
 -- The words that are written for a tree denote it.
 use Rattle.std.proofs.Common.{◌≡◌, ℕ, ◌+◌, ◌*◌, ◌≤◌, true, false, leb, List, [], ◌∷◌, ◌++◌, length, length-append, Some, refl, ap, ◌∙◌, subst, arith}
 use Rattle.std.specs.Prelude.{slice_index}
-use Rattle.std.proofs.lemmas.Bool.{or_parts, ltb-false, le-leb}
+use Rattle.std.proofs.lemmas.Bool.{le-leb}
 use Rattle.std.proofs.lemmas.List.{get_or_at}
 use Rattle.resb_tree.specs.declared.resource.Resource.{Resource}
 use Rattle.resb_tree.specs.Keys.{stands_in}
 use Rattle.resb_tree.specs.Weight.{weight}
 use Rattle.resb_tree.specs.Tree.{Body, body, tree_at, denoted}
 use Rattle.resb_tree.specs.Header.{body_of, tree_of}
-use Rattle.resb.specs.Writing.{keys_met, key_pool, pool_bytes, pack_bytes, key_place, laid, most_of, most_entries, header, written_body, written, all_keys, has_bad_key, depth, has_wide_integer, places_of, is_too_large}
+use Rattle.resb.specs.Writing.{keys_met, key_pool, pool_bytes, pack_bytes, key_place, laid, most_of, most_entries, header, written_body, written, all_keys, has_bad_key, places_of, is_too_large}
 use Rattle.resb.specs.Laws.{has_typed_parts}
 use Rattle.resb.proofs.PackedWords.{StandIn, stand_front, stand_back, bytes_stand, length-pack_bytes}
 use Rattle.resb.proofs.PoolReads.{met_in_pool, pool_keys, pool_below, pool_read, place_low, Each, each_met, Placed}
 use Rattle.resb.proofs.Trees.{Sound, laid_reads}
 use Rattle.resb.proofs.GoodKeys.{keys_good}
+use Rattle.resb.proofs.WrittenWords.{Kept, kept}
 
 regroup : (front : List ℕ) (x : ℕ) (xs : List ℕ) → front ++ x ∷ xs ≡ (front ++ x ∷ []) ++ xs
 regroup [] x xs = refl
@@ -44,21 +45,6 @@ header_read root keys_end end most rest low mid high all =
     let e : leb end (length words) ≡ true = le-leb _ _ (omega (arith, high)) in
     rw (few, room, a, b, c, d, e) refl
 
--- ---- what a tree is for which the file has room
-
-Room : Resource → Type 0
-Room t = (length (written t) ≤ 1048576) × (depth t ≤ 8) × (most_of (places_of (key_pool t) 32) ≤ 65535) × (most_entries t ≤ 65535) × (has_wide_integer t ≡ false) × (weight t ≤ 8 * length (written t))
-
-room : (t : Resource) → is_too_large t ≡ false → Room t
-unfolding is_too_large Room
-room t h =
-    let weights = or_parts _ _ h in
-    let wide = or_parts _ _ weights.0 in
-    let entries = or_parts _ _ wide.0 in
-    let places = or_parts _ _ entries.0 in
-    let deep = or_parts _ _ places.0 in
-    (ltb-false _ _ deep.0, ltb-false _ _ deep.1, ltb-false _ _ places.1, ltb-false _ _ entries.1, wide.1, ltb-false _ _ weights.1)
-
 -- every key that is met is read at its place
 all_placed : (t : Resource) (b : Body) → all_keys (keys_met t) ≡ true → StandIn b.words 8 (pack_bytes (pool_bytes (key_pool t))) → 8 + length (pack_bytes (pool_bytes (key_pool t))) ≤ b.keys_end → most_of (places_of (key_pool t) 32) ≤ 65535
     → Each (Placed b (key_place (key_pool t) 32)) (keys_met t)
@@ -86,8 +72,8 @@ root_laid t = laid t (key_place (key_pool t) 32) (keys_stop t)
 abbrev stop : Resource → ℕ
 stop t = keys_stop t + length (root_laid t).0
 
-body_read : (t : Resource) → has_typed_parts t ≡ true → has_bad_key t ≡ false → Room t → stop t ≤ 268435456 → denoted (body (written_body t) (keys_stop t) (keys_stop t) (stop t)) (8 * length (written t)) ≡ Some t
-unfolding denoted Room written_body
+body_read : (t : Resource) → has_typed_parts t ≡ true → has_bad_key t ≡ false → Kept t → stop t ≤ 268435456 → denoted (body (written_body t) (keys_stop t) (keys_stop t) (stop t)) (8 * length (written t)) ≡ Some t
+unfolding denoted written_body
 body_read t typed good room fits =
     let root = root_laid t in
     let keys = key_words t in
@@ -97,29 +83,29 @@ body_read t typed good room fits =
     let behind : StandIn (written_body t) 8 (keys ++ root.0) = stand_behind (written_body t) eight (keys ++ root.0) refl in
     let key_part = stand_front (slice_index (written_body t)) 8 keys root.0 behind in
     let root_part = stand_back (slice_index (written_body t)) 8 keys root.0 behind in
-    let placed = all_placed t b (keys_good 8 t room.1 good) key_part (omega arith) room.2 in
-    let sound : Sound b places 8 t = (room.1, good, room.4, room.3, typed, placed) in
+    let placed = all_placed t b (keys_good 8 t room.shallow good) key_part (omega arith) room.near in
+    let sound : Sound b places 8 t = (room.shallow, good, room.small, room.counts, typed, placed) in
     let read : tree_at b 8 root.1 ≡ Some t = laid_reads 8 b places fits t (keys_stop t) sound (omega arith) root_part (omega arith) in
-    let light : leb (weight t) (8 * length (written t)) ≡ true = le-leb _ _ room.5 in
+    let light : leb (weight t) (8 * length (written t)) ≡ true = le-leb _ _ room.light in
     rw (read, light) refl
 
-header_is : (t : Resource) → Room t → body_of (written t) ≡ Some (body (written_body t) (keys_stop t) (keys_stop t) (stop t))
-unfolding Room written written_body
+header_is : (t : Resource) → Kept t → body_of (written t) ≡ Some (body (written_body t) (keys_stop t) (keys_stop t) (stop t))
+unfolding written written_body
 header_is t room =
     let root = root_laid t in
     let keys = key_words t in
     let len = length-append keys root.0 in
-    header_read root.1 (keys_stop t) (stop t) (most_entries t) (keys ++ root.0) (omega arith) (omega arith) (omega (arith, len)) (omega (arith, room.0))
+    header_read root.1 (keys_stop t) (stop t) (most_entries t) (keys ++ root.0) (omega arith) (omega arith) (omega (arith, len)) (omega (arith, room.words))
 
 of_body : (words : List ℕ) (b : Body) → body_of words ≡ Some b → tree_of words ≡ denoted b (8 * length words)
 unfolding tree_of
 of_body words b h = rw h refl
 
-stop_low : (t : Resource) → Room t → stop t ≤ 268435456
-unfolding Room written written_body
-stop_low t room = omega (arith, room.0, length-append (key_words t) (root_laid t).0)
+stop_low : (t : Resource) → Kept t → stop t ≤ 268435456
+unfolding written written_body
+stop_low t room = omega (arith, room.words, length-append (key_words t) (root_laid t).0)
 
 pub denotes : (t : Resource) → has_typed_parts t ≡ true → has_bad_key t ≡ false → is_too_large t ≡ false → tree_of (written t) ≡ Some t
 denotes t typed good fits =
-    let has_room = room t fits in
+    let has_room = kept t fits in
     of_body (written t) _ (header_is t has_room) ∙ body_read t typed good has_room (stop_low t has_room)

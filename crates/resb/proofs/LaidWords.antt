@@ -98,7 +98,7 @@ pub array_some : (xs : List Resource) (places : List ℕ → ℕ) (at : ℕ) →
 array_some [] places at h = absurd (omega arith)
 array_some (x ∷ xs) places at h = laid-Array (x ∷ xs) places at
 
-places_told : (es : List (List ℕ × Resource)) (places : List ℕ → ℕ) → map (λ (x : List ℕ × Laid). places x.0) (told_values laid es) ≡ map places (keys_in es)
+pub places_told : (es : List (List ℕ × Resource)) (places : List ℕ → ℕ) → map (λ (x : List ℕ × Laid). places x.0) (told_values laid es) ≡ map places (keys_in es)
 places_told [] places = refl
 places_told (e ∷ es) places = ap (λ ks. places e.0 ∷ ks) (places_told es places)
 
@@ -118,12 +118,9 @@ table_some (e ∷ es) places at h =
 
 -- ---- what fits
 
-pub most_of-append : (xs ys : List ℕ) → most_of (xs ++ ys) ≡ max (most_of xs) (most_of ys)
-most_of-append [] ys = omega arith
-most_of-append (x ∷ xs) ys = omega (arith, most_of-append xs ys)
-
-most_both : (places : List ℕ → ℕ) (xs ys : List (List ℕ)) → most_of (map places (xs ++ ys)) ≡ max (most_of (map places xs)) (most_of (map places ys))
-most_both places xs ys = rw map-append (most_of-append (map places xs) (map places ys))
+pub most_both : {A : Type 0} (f : A → ℕ) (xs ys : List A) → most_of (map f (xs ++ ys)) ≡ max (most_of (map f xs)) (most_of (map f ys))
+most_both f [] ys = omega arith
+most_both f (x ∷ xs) ys = omega (arith, most_both f xs ys)
 
 pub left_false : (a b : Bool) → (a || b) ≡ false → a ≡ false
 left_false true b h = h

@@ -1,21 +1,13 @@
 -- What the layout of a tree, and the sizes of its parts, are at each variant.
-use Rattle.std.proofs.Common.{◌≡◌, ℕ, suc, true, List, [], ◌∷◌, length, refl, ap, ◌∙◌}
+use Rattle.std.proofs.Common.{◌≡◌, ℕ, true, List, [], refl, ◌∙◌}
 use Rattle.std.specs.Prelude.{map}
 use Rattle.resb_tree.specs.declared.resource.Resource.{Resource}
 use Rattle.resb_tree.specs.declared.resource.Resource.TheVariants as r
 use Rattle.resb_tree.specs.declared.resource.Resource.TheVariants.{rolls-Integer, rolls-Text, rolls-Bytes, rolls-Integers, rolls-Array, rolls-Table}
 use Rattle.resb.specs.Writing.{item, text_laid, bytes_laid, integers_laid, array_laid, table_laid, layer_laid, laid}
 use Rattle.resb.specs.Plan.{values_in}
-use Rattle.resb.proofs.Folds.{fold-Text, fold-Bytes, fold-Integers, fold-Integer, fold-Array, fold-Table}
+use Rattle.resb.proofs.Folds.{told-values, fold-Text, fold-Bytes, fold-Integers, fold-Integer, fold-Array, fold-Table}
 use Rattle.resb.specs.Laws.{all_below, all_true, layer_typed, has_typed_parts}
-
-pub values_mapped : {A B : Type 0} (f : A → B) (es : List (List ℕ × A)) → map (λ (x : List ℕ × B). x.1) (map (λ (e : List ℕ × A). (e.0, f e.1)) es) ≡ map f (values_in es)
-values_mapped f [] = refl
-values_mapped f (e ∷ es) = ap (λ vs. f e.1 ∷ vs) (values_mapped f es)
-
-pub length_mapped : {A B : Type 0} (f : A → B) (es : List A) → length (map f es) ≡ length es
-length_mapped f [] = refl
-length_mapped f (e ∷ es) = ap suc (length_mapped f es)
 
 pub laid-Text : (v : List ℕ) → laid (r.Text v) ≡ text_laid v
 unfolding laid
@@ -51,7 +43,7 @@ has_typed_parts-Bytes v = fold-Bytes layer_typed v
 
 pub has_typed_parts-Table : (v : List (List ℕ × Resource)) → has_typed_parts (r.Table v) ≡ all_true (map has_typed_parts (values_in v))
 unfolding has_typed_parts
-has_typed_parts-Table v = fold-Table layer_typed v ∙ rw (values_mapped has_typed_parts v) refl
+has_typed_parts-Table v = fold-Table layer_typed v ∙ rw (told-values has_typed_parts v) refl
 
 pub has_typed_parts-Array : (v : List Resource) → has_typed_parts (r.Array v) ≡ all_true (map has_typed_parts v)
 unfolding has_typed_parts

@@ -14,9 +14,9 @@ use Rattle.resb.specs.Writing.{laid, lay_all, most_of, depth}
 use Rattle.resb.specs.Drafts.{Holds, HasRoom, Unwritten}
 use Rattle.resb.specs.declared.draft.Draft.{Draft}
 use Rattle.resb.proofs.Folds.{weight-Array, weight-Table, depth-Array, depth-Table}
-use Rattle.resb.proofs.LaidWords.{fits-first, fits-array, fits-values, refused_still}
+use Rattle.resb.proofs.LaidWords.{most_both, fits-first, fits-array, fits-values, refused_still}
 use Rattle.resb.proofs.LaidSteps.{length-lay_all}
-use Rattle.resb.proofs.Rows.{fits_both, fits_front, fits_back, most_both, weights_both}
+use Rattle.resb.proofs.Rows.{fits_both, fits_front, fits_back, weights_both}
 use Rattle.resb.proofs.RowParents.{entries_weigh}
 
 -- ---- room for more

@@ -11,7 +11,7 @@ use Rattle.resb.specs.Pool.{place_of}
 use Rattle.resb.specs.Writing.{laid, lay_all, most_of, most_entries, depth, any_bad, has_bad_key}
 use Rattle.resb.specs.Inside.Laying.{IsLaid, Stands}
 use Rattle.resb.specs.Drafts.{Row}
-use Rattle.resb.proofs.LaidWords.{fits-first, fits-rest, fits_none, fits_cons}
+use Rattle.resb.proofs.LaidWords.{most_both, fits-first, fits-rest, fits_none, fits_cons}
 use Rattle.resb.proofs.LaidSteps.{length-lay_all, topmost}
 
 -- ---- two rows, one behind the other
@@ -55,10 +55,6 @@ fits_back (x ∷ xs) ys places at f =
 pub weights_both : (xs ys : List Resource) → weights (xs ++ ys) ≡ weights xs + weights ys
 weights_both [] ys = omega arith
 weights_both (x ∷ xs) ys = omega (arith, weights_both xs ys)
-
-pub most_both : (f : Resource → ℕ) (xs ys : List Resource) → most_of (map f (xs ++ ys)) ≡ max (most_of (map f xs)) (most_of (map f ys))
-most_both f [] ys = omega arith
-most_both f (x ∷ xs) ys = omega (arith, most_both f xs ys)
 
 true_both : (f : Resource → Bool) (xs ys : List Resource) → all_true (map f xs) ≡ true → all_true (map f ys) ≡ true → all_true (map f (xs ++ ys)) ≡ true
 true_both f [] ys h g = g

@@ -6,14 +6,16 @@ use Rattle.resb_tree.specs.declared.resource.Resource.{Resource}
 use Rattle.resb_tree.specs.declared.resource.Resource.TheVariants as r
 use Rattle.resb_tree.specs.Keys.{distinct, keys_in}
 use Rattle.resb_tree.specs.Tree.{Body, by_type, array_at, table16_at, tree_at}
-use Rattle.resb.specs.Writing.{pack_units, item, Laid, lay_all, array_laid, table_laid, laid, entry_keys, item_keys, keys_met, most_of, most_entries, any_bad, has_bad_key, depth, has_wide_integer}
+use Rattle.resb.specs.Writing.{pack_units, item, lay_all, array_laid, table_laid, laid, entry_keys, item_keys, keys_met, most_of, most_entries, any_bad, has_bad_key, depth, has_wide_integer}
 use Rattle.resb.specs.Laws.{all_true, has_typed_parts}
 use Rattle.resb.proofs.Cases.{by_variant}
 use Rattle.resb.proofs.PackedWords.{StandIn, Below, stand_front, stand_back, length-pack_units}
 use Rattle.resb.proofs.PoolReads.{Each, each_append, both_each, Placed}
 use Rattle.resb.proofs.ReadBack.{Read, Reads, at_type, text_reads, bytes_reads, integers_reads, Denote, array_read, table_read}
-use Rattle.resb.proofs.Layers.{values_mapped, length_mapped, laid-Text, laid-Bytes, laid-Integers, laid-Integer, laid-Array, laid-Table, has_typed_parts-Text, has_typed_parts-Bytes, has_typed_parts-Table, has_typed_parts-Array}
-use Rattle.resb.proofs.Folds.{keys_met-Table, keys_met-Array, most_entries-Table, most_entries-Array, bad-Table, bad-Array, depth-Text, depth-Bytes, depth-Table, depth-Integer, depth-Array, depth-Integers, wide-Table, wide-Array, wide-Integer}
+use Rattle.resb.proofs.LaidSteps.{length-lay_all, length-values}
+use Rattle.resb.proofs.LaidWords.{places_told}
+use Rattle.resb.proofs.Layers.{laid-Text, laid-Bytes, laid-Integers, laid-Integer, laid-Array, laid-Table, has_typed_parts-Text, has_typed_parts-Bytes, has_typed_parts-Table, has_typed_parts-Array}
+use Rattle.resb.proofs.Folds.{told-values, length-told, keys_met-Table, keys_met-Array, most_entries-Table, most_entries-Array, bad-Table, bad-Array, depth-Text, depth-Bytes, depth-Table, depth-Integer, depth-Array, depth-Integers, wide-Table, wide-Array, wide-Integer}
 use Rattle.resb.specs.Plan.{values_in}
 
 -- ---- a tree that the words have room for
@@ -58,10 +60,6 @@ children b levels places child (x ∷ xs) at s pos h le =
       children b levels places child xs (at + length first.0) s.1 (omega (arith, pos)) (stand_back (slice_index b.words) at first.0 others.0 h) (omega (arith, le, len)),
     )
 
-items_length : (xs : List Resource) (places : List ℕ → ℕ) (at : ℕ) → length (lay_all (map laid xs) places at).1 ≡ length xs
-items_length [] places at = refl
-items_length (x ∷ xs) places at = ap suc (items_length xs places (at + length (laid x places at).0))
-
 array_reads : (b : Body) (levels : ℕ) (places : List ℕ → ℕ) (at : ℕ) → b.end ≤ 268435456 → Child b levels places → (xs : List Resource) → Each (Sound b places levels) xs → Reads b (suc levels) places at (array_laid (map laid xs)) (r.Array xs)
 unfolding by_type array_at
 array_reads b levels places at fits child [] s pos h le = at_type b levels 8 0 (lit< tt)
@@ -72,21 +70,13 @@ array_reads b levels places at fits child (x ∷ xs) s pos h le =
     let back = stand_back (slice_index b.words) at inner.0 (length inner.1 ∷ inner.1) h in
     at_type b levels 8 (at + length inner.0) (omega (arith, fits, le, len)) ∙ array_read (tree_at b levels) b (at + length inner.0) inner.1 (x ∷ xs) (omega (arith, pos)) back (omega (arith, le, len)) d
 
-places_mapped : (places : List ℕ → ℕ) (es : List (List ℕ × Resource)) → map (λ (x : List ℕ × Laid). places x.0) (map (λ (e : List ℕ × Resource). (e.0, laid e.1)) es) ≡ map places (keys_in es)
-places_mapped places [] = refl
-places_mapped places (e ∷ es) = ap (λ ps. places e.0 ∷ ps) (places_mapped places es)
-
 -- the words of a table, from its parts
 abbrev parts_of : (List ℕ → ℕ) → ℕ → ℕ → List ℕ → List ℕ × List ℕ → List ℕ × ℕ
 parts_of places at count ps inner = (inner.0 ++ pack_units (count ∷ ps) ++ inner.1, item 2 (at + length inner.0))
 
 table_of_parts : (e : List ℕ × Resource) (es : List (List ℕ × Resource)) (places : List ℕ → ℕ) (at : ℕ)
     → table_laid (map (λ (e : List ℕ × Resource). (e.0, laid e.1)) (e ∷ es)) places at ≡ parts_of places at (length (e ∷ es)) (map places (keys_in (e ∷ es))) (lay_all (map laid (values_in (e ∷ es))) places at)
-table_of_parts e es places at = rw (values_mapped laid es, places_mapped places es, length_mapped {B = List ℕ × Laid} (λ e. (e.0, laid e.1)) es) refl
-
-values_length : (es : List (List ℕ × Resource)) → length (values_in es) ≡ length es
-values_length [] = refl
-values_length (e ∷ es) = ap suc (values_length es)
+table_of_parts e es places at = rw (told-values laid es, places_told es places, length-told laid es) refl
 
 keys_length : (places : List ℕ → ℕ) (es : List (List ℕ × Resource)) → length (map places (keys_in es)) ≡ length es
 keys_length places [] = refl
@@ -101,7 +91,7 @@ parts_read b levels places at fits child es few apart k s pos h le =
     let len1 = length-append (inner.0 ++ packed) inner.1 in
     let len2 = length-append inner.0 packed in
     let len3 : length packed ≡ (length es + 2) / 2 = omega (arith, length-pack_units (length es ∷ map places (keys_in es)), keys_length places es) in
-    let len4 : length inner.1 ≡ length es = items_length (values_in es) places at ∙ values_length es in
+    let len4 : length inner.1 ≡ length es = length-lay_all (values_in es) places at ∙ length-values es in
     let front = stand_front (slice_index b.words) at (inner.0 ++ packed) inner.1 h in
     let kids = stand_front (slice_index b.words) at inner.0 packed front in
     let units = stand_back (slice_index b.words) at inner.0 packed front in

@@ -1,9 +1,8 @@
 -- The words of a bundle, and when there are none.
-use Rattle.std.proofs.Common.{◌≡◌, ℕ, ◌+◌, ◌*◌, ◌≤◌, Bool, true, false, cond, List, [], ◌∷◌, ◌++◌, length, Option, Some, None, refl, sym, ◌∙◌, append_assoc, inl, inr, arith}
+use Rattle.std.proofs.Common.{◌≡◌, ℕ, ◌+◌, ◌*◌, ◌≤◌, Bool, true, false, cond, List, [], ◌∷◌, ◌++◌, length, Option, Some, None, refl, sym, ◌∙◌, append_assoc, arith}
 use Rattle.std.specs.Prelude.{map, nat_lt, ◌||◌, Result, Ok, Err, IfOk, OnOk, IfErr, IsErrAnd}
 use Rattle.std.specs.Str.{bytes_eq}
-use Rattle.std.proofs.lemmas.Bool.{lt-ltb, le-ltb}
-use Rattle.std.proofs.lemmas.Bool.Decides.{leb_tells}
+use Rattle.std.proofs.lemmas.Bool.{le-ltb, ltb-false}
 use Rattle.std.proofs.lemmas.List.{length-append}
 use Rattle.std.proofs.lemmas.Slice.Eq.{bytes_eq-Decides}
 use Rattle.resb_tree.specs.declared.error.ResbError.{ResbError}
@@ -68,12 +67,6 @@ near_all t = near_from (key_pool t) (keys_met t) [] refl
 
 -- ---- what is too large
 
-pub not_lt : (m n : ℕ) → nat_lt m n ≡ false → n ≤ m
-not_lt m n h = elim (leb_tells n m) [
-  | inl g ↦ g.1
-  | inr g ↦ absurd (let e : nat_lt m n ≡ true = lt-ltb m n g.1 in let f : true ≡ false = sym e ∙ h in cc)
-]
-
 -- the limits that a tree keeps whose words are written
 pub record Kept (t : Resource) : Type 0 where
   pub words : length (written t) ≤ 1048576
@@ -83,7 +76,7 @@ pub record Kept (t : Resource) : Type 0 where
   pub small : has_wide_integer t ≡ false
   pub light : weight t ≤ 8 * length (written t)
 
-kept : (t : Resource) → is_too_large t ≡ false → Kept t
+pub kept : (t : Resource) → is_too_large t ≡ false → Kept t
 unfolding is_too_large
 kept t h =
     let a = nat_lt 1048576 (length (written t)) in
@@ -97,12 +90,12 @@ kept t h =
     let h3 = left_false (a || b || c) d h4 in
     let h2 = left_false (a || b) c h3 in
     record {
-      words = not_lt 1048576 (length (written t)) (left_false a b h2);
-      shallow = not_lt 8 (depth t) (right_false a b h2);
-      near = not_lt 65535 (most_of (places_of (key_pool t) 32)) (right_false (a || b) c h3);
-      counts = not_lt 65535 (most_entries t) (right_false (a || b || c) d h4);
+      words = ltb-false 1048576 (length (written t)) (left_false a b h2);
+      shallow = ltb-false 8 (depth t) (right_false a b h2);
+      near = ltb-false 65535 (most_of (places_of (key_pool t) 32)) (right_false (a || b) c h3);
+      counts = ltb-false 65535 (most_entries t) (right_false (a || b || c) d h4);
       small = right_false (a || b || c || d) e h5;
-      light = not_lt (8 * length (written t)) (weight t) (right_false (a || b || c || d || e) f h);
+      light = ltb-false (8 * length (written t)) (weight t) (right_false (a || b || c || d || e) f h);
     }
 
 pub keeps : (t : Resource) → Kept t → is_too_large t ≡ false
