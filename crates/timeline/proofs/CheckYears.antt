@@ -1,11 +1,10 @@
 -- The years of a rule by their kinds: what one year of each kind keeps, all years keep.
-use Rattle.std.proofs.Common.{◌≡◌, ℕ, zero, suc, ◌<◌, true, false, Ok, refl, sym, ap, subst, ◌∙◌, ℤ, pos, negsuc, ◌+ℤ◌, ◌-ℤ◌, ◌*ℤ◌, ◌≤ℤ◌, cond, arith}
-use Rattle.std.specs.Int.{int_div_euclid}
+use Rattle.std.proofs.Common.{◌≡◌, ℕ, zero, suc, ◌<◌, true, false, Ok, refl, sym, ap, subst, ◌∙◌, ℤ, pos, ◌+ℤ◌, ◌-ℤ◌, ◌*ℤ◌, ◌≤ℤ◌, cond, arith}
 use Rattle.std.proofs.lemmas.Int.{ints}
-use Rattle.civil.specs.Calendar.{days_in_year, year_kind, year_second, example_year}
-use Rattle.civil.proofs.SignedLemmas.{signed_arith, int_div_euclid-parts}
-use Rattle.civil.proofs.CalendarLemmas.{year_start-next}
-use Rattle.civil.proofs.YearKinds.{same_kind, kind_below, kind_of_example, year_kind-moved}
+use Rattle.civil.specs.Calendar.{days_in_year, year_start, year_kind, year_second, example_year}
+use Rattle.civil.specs.Inside.LeapDays.{leap_days_to}
+use Rattle.civil.proofs.CalendarLemmas.{year_start-closed, year_start-next}
+use Rattle.civil.proofs.YearKinds.{same_kind, kind_below, kind_of_example, kind_occurs}
 use Rattle.timeline.specs.declared.fault.ZoneFault.{ZoneFault}
 use Rattle.timeline.specs.declared.fault.ZoneFault.TheVariants.{Parts, Order, Size, Near, Walls, Seam, Before, Year}
 use Rattle.timeline.specs.declared.check.Walls as checked
@@ -14,7 +13,8 @@ use Rattle.timeline.specs.Rule.{start_entry, end_entry, start_is_first, first_en
 use Rattle.timeline.specs.Timeline.{offset_of}
 use Rattle.timeline.specs.Laws.{Step, step, IsNear, IsWalled, LiesIn}
 use Rattle.timeline.specs.Inside.LeastFaults.{TellsLeast}
-use Rattle.timeline.specs.Inside.CheckSteps.{walls, PairKeeps, YearKeeps, YearsKeep}
+use Rattle.timeline.specs.Inside.KeptRules.{IsYearOf}
+use Rattle.timeline.specs.Inside.CheckSteps.{walls, example_day, kind_seconds, PairKeeps, YearKeeps, YearsKeep}
 use Rattle.timeline.proofs.LeastFaults.{Told, tells-same}
 use Rattle.timeline.proofs.CheckLaws.{near-there, near-back, walled-there, walled-back, lies-there, lies-back}
 use Rattle.timeline.proofs.RuleKinds.{first_entry-same, second_entry-same}
@@ -124,49 +124,69 @@ year_told r y a b low high t d e f g h =
 
 -- ---- one year of each kind
 
--- the year of the kth kind from the year c on
-abbrev pub sample : ℤ → ℕ → ℤ
-sample c k = example_year k +ℤ c -ℤ pos 2000
+-- the first day of the example of a kind
+example_start : (k : ℕ) → k < 14 → example_day k ≡ year_start (example_year k)
+unfolding leap_days_to
+example_start zero h = sym (year_start-closed (pos 2001) (pos 2000) refl)
+example_start (suc zero) h = sym (year_start-closed (pos 2002) (pos 2001) refl)
+example_start (suc (suc zero)) h = sym (year_start-closed (pos 2003) (pos 2002) refl)
+example_start (suc (suc (suc zero))) h = sym (year_start-closed (pos 2009) (pos 2008) refl)
+example_start (suc (suc (suc (suc zero)))) h = sym (year_start-closed (pos 2010) (pos 2009) refl)
+example_start (suc (suc (suc (suc (suc zero))))) h = sym (year_start-closed (pos 2005) (pos 2004) refl)
+example_start (suc (suc (suc (suc (suc (suc zero)))))) h = sym (year_start-closed (pos 2006) (pos 2005) refl)
+example_start (suc (suc (suc (suc (suc (suc (suc zero))))))) h = sym (year_start-closed (pos 2024) (pos 2023) refl)
+example_start (suc (suc (suc (suc (suc (suc (suc (suc zero)))))))) h = sym (year_start-closed (pos 2008) (pos 2007) refl)
+example_start (suc (suc (suc (suc (suc (suc (suc (suc (suc zero))))))))) h = sym (year_start-closed (pos 2020) (pos 2019) refl)
+example_start (suc (suc (suc (suc (suc (suc (suc (suc (suc (suc zero)))))))))) h = sym (year_start-closed (pos 2004) (pos 2003) refl)
+example_start (suc (suc (suc (suc (suc (suc (suc (suc (suc (suc (suc zero))))))))))) h = sym (year_start-closed (pos 2016) (pos 2015) refl)
+example_start (suc (suc (suc (suc (suc (suc (suc (suc (suc (suc (suc (suc zero)))))))))))) h = sym (year_start-closed (pos 2000) (pos 1999) refl)
+example_start (suc (suc (suc (suc (suc (suc (suc (suc (suc (suc (suc (suc (suc zero))))))))))))) h = sym (year_start-closed (pos 2012) (pos 2011) refl)
+example_start (suc (suc (suc (suc (suc (suc (suc (suc (suc (suc (suc (suc (suc (suc k)))))))))))))) h = absurd (omega arith)
 
-pub example_near : (k : ℕ) → k < 14 → (pos 2000 ≤ℤ example_year k) × (example_year k ≤ℤ pos 2024)
-example_near zero h = (omega (arith, ints), omega (arith, ints))
-example_near (suc (zero)) h = (omega (arith, ints), omega (arith, ints))
-example_near (suc (suc (zero))) h = (omega (arith, ints), omega (arith, ints))
-example_near (suc (suc (suc (zero)))) h = (omega (arith, ints), omega (arith, ints))
-example_near (suc (suc (suc (suc (zero))))) h = (omega (arith, ints), omega (arith, ints))
-example_near (suc (suc (suc (suc (suc (zero)))))) h = (omega (arith, ints), omega (arith, ints))
-example_near (suc (suc (suc (suc (suc (suc (zero))))))) h = (omega (arith, ints), omega (arith, ints))
-example_near (suc (suc (suc (suc (suc (suc (suc (zero)))))))) h = (omega (arith, ints), omega (arith, ints))
-example_near (suc (suc (suc (suc (suc (suc (suc (suc (zero))))))))) h = (omega (arith, ints), omega (arith, ints))
-example_near (suc (suc (suc (suc (suc (suc (suc (suc (suc (zero)))))))))) h = (omega (arith, ints), omega (arith, ints))
-example_near (suc (suc (suc (suc (suc (suc (suc (suc (suc (suc (zero))))))))))) h = (omega (arith, ints), omega (arith, ints))
-example_near (suc (suc (suc (suc (suc (suc (suc (suc (suc (suc (suc (zero)))))))))))) h = (omega (arith, ints), omega (arith, ints))
-example_near (suc (suc (suc (suc (suc (suc (suc (suc (suc (suc (suc (suc (zero))))))))))))) h = (omega (arith, ints), omega (arith, ints))
-example_near (suc (suc (suc (suc (suc (suc (suc (suc (suc (suc (suc (suc (suc (zero)))))))))))))) h = (omega (arith, ints), omega (arith, ints))
-example_near (suc (suc (suc (suc (suc (suc (suc (suc (suc (suc (suc (suc (suc (suc (k))))))))))))))) h = absurd (omega arith)
+-- and its days, in seconds
+example_seconds : (k : ℕ) → k < 14 → pos 86400 *ℤ pos (days_in_year (example_year k)) ≡ kind_seconds k
+example_seconds zero h = refl
+example_seconds (suc zero) h = refl
+example_seconds (suc (suc zero)) h = refl
+example_seconds (suc (suc (suc zero))) h = refl
+example_seconds (suc (suc (suc (suc zero)))) h = refl
+example_seconds (suc (suc (suc (suc (suc zero))))) h = refl
+example_seconds (suc (suc (suc (suc (suc (suc zero)))))) h = refl
+example_seconds (suc (suc (suc (suc (suc (suc (suc zero))))))) h = refl
+example_seconds (suc (suc (suc (suc (suc (suc (suc (suc zero)))))))) h = refl
+example_seconds (suc (suc (suc (suc (suc (suc (suc (suc (suc zero))))))))) h = refl
+example_seconds (suc (suc (suc (suc (suc (suc (suc (suc (suc (suc zero)))))))))) h = refl
+example_seconds (suc (suc (suc (suc (suc (suc (suc (suc (suc (suc (suc zero))))))))))) h = refl
+example_seconds (suc (suc (suc (suc (suc (suc (suc (suc (suc (suc (suc (suc zero)))))))))))) h = refl
+example_seconds (suc (suc (suc (suc (suc (suc (suc (suc (suc (suc (suc (suc (suc zero))))))))))))) h = refl
+example_seconds (suc (suc (suc (suc (suc (suc (suc (suc (suc (suc (suc (suc (suc (suc k)))))))))))))) h = absurd (omega arith)
 
-sample_kind : (c q : ℤ) (k : ℕ) → c ≡ pos 400 *ℤ q → k < 14 → year_kind (sample c k) ≡ k
-sample_kind c q k e h =
-    let moved : sample c k ≡ example_year k +ℤ pos 400 *ℤ (q -ℤ pos 5) = omega (arith, ints, e) in
-    ap year_kind moved ∙ year_kind-moved (q -ℤ pos 5) (example_year k) ∙ kind_of_example k h
+pub example_by : (k : ℕ) (day : ℤ) → k < 14 → day ≡ example_day k → IsYearOf (example_year k) day k
+example_by k day h e = record { first_day = e ∙ example_start k h; kind = sym (kind_of_example k h) }
 
--- what holds of one year of each kind, from the first year on and not far from it, holds of all years
-pub years_told : (r : PlainRule) (c : ℤ) (t : Told) → negsuc 134217727 ≤ℤ r.first_year → r.first_year ≤ℤ pos 134217727
-    → c ≡ pos 400 *ℤ int_div_euclid (r.first_year +ℤ pos 399) (pos 400)
-    → TellsLeast (λ f. (m : ℕ) → m < 14 → YearKeeps r (sample c m) f) t → TellsLeast (YearsKeep r) t
-years_told r c t low high e h =
-    let q = int_div_euclid (r.first_year +ℤ pos 399) (pos 400) in
-    let parts = int_div_euclid-parts (r.first_year +ℤ pos 399) 400 (omega arith) in
-    tells-same (λ f. (m : ℕ) → m < 14 → YearKeeps r (sample c m) f) (YearsKeep r) t
-    (λ f all y from to. year_keeps-same r (sample c (year_kind y)) y (sample_kind c q (year_kind y) e (kind_below y)) f (all (year_kind y) (kind_below y)))
+pub first_example : (day : ℤ) → day ≡ example_day 0 → IsYearOf (example_year 0) day 0
+first_example day e = example_by 0 day (omega arith) e
+
+pub example_low : (k : ℕ) → k < 14 → pos 86400 *ℤ example_day k ≡ year_second (example_year k)
+example_low k h = ap (λ d. pos 86400 *ℤ d) (example_start k h)
+
+pub example_high : (k : ℕ) → k < 14 → pos 86400 *ℤ example_day k +ℤ kind_seconds k ≡ year_second (example_year k +ℤ pos 1)
+example_high k h = omega (arith, ints, example_start k h, example_seconds k h, year_start-next (example_year k))
+
+-- what holds of the example of each kind holds of all years
+pub years_told : (r : PlainRule) (t : Told) → r.first_year ≤ℤ pos 134217727
+    → TellsLeast (λ f. (m : ℕ) → m < 14 → YearKeeps r (example_year m) f) t → TellsLeast (YearsKeep r) t
+years_told r t high h =
+    tells-same (λ f. (m : ℕ) → m < 14 → YearKeeps r (example_year m) f) (YearsKeep r) t
+    (λ f all y from to. year_keeps-same r (example_year (year_kind y)) y (kind_of_example (year_kind y) (kind_below y)) f (all (year_kind y) (kind_below y)))
     (λ f all m less.
-    let near = example_near m less in
-    all (sample c m) (omega (arith, signed_arith, e, parts, near.0)) (omega (arith, signed_arith, e, parts, near.1, high)))
+    let z = kind_occurs r.first_year m less in
+    year_keeps-same r z.0 (example_year m) (z.3 ∙ sym (kind_of_example m less)) f (all z.0 z.1 (omega (arith, ints, z.2, high))))
     h
 
 -- before the first kind nothing is asked
-pub no_year_told : (r : PlainRule) (c : ℤ) → TellsLeast (λ f. (m : ℕ) → m < 0 → YearKeeps r (sample c m) f) (Ok tt)
-no_year_told r c = λ f m less. absurd (omega (arith, less))
+pub no_year_told : (r : PlainRule) → TellsLeast (λ f. (m : ℕ) → m < 0 → YearKeeps r (example_year m) f) (Ok tt)
+no_year_told r = λ f m less. absurd (omega (arith, less))
 
 -- the offset before a year's first transition is that of every year
 pub before_same : (r : PlainRule) (y z : ℤ) → offset_of (second_entry r y) ≡ offset_of (second_entry r z)

@@ -100,6 +100,10 @@ pub kept-extra : (r : PlainRule) → (kept_rule r).extra ≡ r.extra
 unfolding kept_rule
 kept-extra r = refl
 
+pub kept-sum : (r : PlainRule) → (kept_rule r).raw +ℤ (kept_rule r).extra ≡ r.raw +ℤ r.extra
+unfolding kept_rule
+kept-sum r = refl
+
 pub kept-year : (r : PlainRule) → (kept_rule r).first_year ≡ r.first_year
 unfolding kept_rule
 kept-year r = refl

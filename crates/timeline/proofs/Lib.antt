@@ -24,6 +24,7 @@ pub mod CheckLaws
 pub mod CheckYears
 pub mod CheckWhole
 pub mod Apart
+pub mod YearsApart
 pub mod Probes
 pub mod TableEntries
 pub mod TableRanges

@@ -10,14 +10,14 @@ use Rattle.timeline.proofs.Entries.{last-holds}
 use Rattle.timeline.proofs.TimelineEntries.{Stands, in_table, is_first, is_second, stands}
 use Rattle.timeline.proofs.TimelineRises.{if_some}
 
-first_small : (r : PlainRule) (y : ℤ) → IsSmall r.raw × IsSmall (r.raw +ℤ r.extra) → IsSmall (first_entry r y).offset
+pub first_small : (r : PlainRule) (y : ℤ) → IsSmall r.raw × IsSmall (r.raw +ℤ r.extra) → IsSmall (first_entry r y).offset
 first_small r y h = by (start_is_first r) refl
   where
     by : (c : Bool) → start_is_first r ≡ c → IsSmall (first_entry r y).offset
     by true is = rw is h.1
     by false is = rw is h.0
 
-second_small : (r : PlainRule) (y : ℤ) → IsSmall r.raw × IsSmall (r.raw +ℤ r.extra) → IsSmall (second_entry r y).offset
+pub second_small : (r : PlainRule) (y : ℤ) → IsSmall r.raw × IsSmall (r.raw +ℤ r.extra) → IsSmall (second_entry r y).offset
 second_small r y h = by (start_is_first r) refl
   where
     by : (c : Bool) → start_is_first r ≡ c → IsSmall (second_entry r y).offset

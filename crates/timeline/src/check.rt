@@ -1,7 +1,6 @@
 //! Whether a zone keeps the eight laws.
 ghost use Rattle.std.specs.Prelude.{◌≡◌, ◌+◌, ◌≤◌, ◌<◌, ◌↔◌, IsTrue, IfSome, Some, slice_get, nat_le, length, ℤ, pos, negsuc, ◌+ℤ◌, ◌-ℤ◌, ◌*ℤ◌, ◌<ℤ◌, ◌≤ℤ◌};
-ghost use Rattle.civil.specs.Calendar.{year_start, year_second, example_year};
-ghost use Rattle.std.specs.Int.{int_div_euclid};
+ghost use Rattle.civil.specs.Calendar.{year_second, example_year};
 ghost use Rattle.timeline.specs.Zone.{PlainRule};
 ghost use Rattle.timeline.specs.Rule.{second_entry};
 ghost use Rattle.timeline.specs.Timeline.{offset_of};
@@ -10,7 +9,7 @@ ghost use Rattle.timeline.specs.Laws.{IsSmall, step};
 ghost use Rattle.timeline.specs.declared.offset.Transition.{Transition as Entry};
 ghost use Rattle.timeline.specs.Fault.{Keeps};
 ghost use Rattle.timeline.specs.Inside.LeastFaults.{TellsLeast};
-ghost use Rattle.timeline.specs.Inside.CheckSteps.{walls, AreNear, AreWalled, EndBefore, BeginFrom, LieIn, InPart, IsSecondAt, IsSecondBefore, EntryKeeps, KeepsAt, TableKeeps, table_before, table_walls, walls_before, PairKeeps, YearKeeps, YearsKeep, RuleKeeps, SizeKept};
+ghost use Rattle.timeline.specs.Inside.CheckSteps.{walls, AreNear, AreWalled, EndBefore, BeginFrom, LieIn, InPart, IsSecondAt, IsSecondBefore, EntryKeeps, KeepsAt, TableKeeps, table_before, table_walls, walls_before, example_day, kind_seconds, PairKeeps, YearKeeps, YearsKeep, RuleKeeps, SizeKept};
 
 use crate::data::ZoneData;
 use crate::dates::ZoneRule;
@@ -285,16 +284,53 @@ fn pair_fault(first: Walls, second: Walls, low: i64, high: i64) -> Result<(), Zo
     Ok(())
 }
 
-/// The least law that a year of a rule breaks. Takes one step.
-fn year_fault<L: Ledger>(rule: &YearRule, year: i32, steps: &mut Steps<L>) -> Result<(), ZoneFault>
-    requires { year <ℤ pos 2147483647 }
-    ensures told { (r : PlainRule) → rule.now ≡ kept_rule r → TellsLeast (YearKeeps r year) result }
+/// The seconds of a year of a kind.
+fn seconds_of_kind(kind: u8) -> i64
+    ensures value { result ≡ kind_seconds kind }
+    ensures low { pos 0 ≤ℤ result }
+    ensures high { result ≤ℤ pos 31622400 }
+{
+    if kind < 7 { 31_536_000 } else { 31_622_400 }
+}
+
+// The first day of a year of each kind: of 2001, 2002, 2003, 2009, 2010, 2005 and 2006, and of the leap years 2024, 2008,
+// 2020, 2004, 2016, 2000 and 2012.
+const EXAMPLE_DAYS: [u16; 14] = [
+    11_323, 11_688, 12_053, 14_245, 14_610, 12_784, 13_149, 19_723, 13_879, 18_262, 12_418, 16_801,
+    10_957, 15_340,
+];
+
+/// The first day of a year of a kind, from 2000 to 2024.
+fn example_day(kind: u8) -> i64
+    requires { kind < 14 }
+    ensures value { result ≡ example_day kind }
+    ensures low { pos 0 ≤ℤ result }
+    ensures high { result ≤ℤ pos 65535 }
+{
+    EXAMPLE_DAYS[kind as usize] as i64
+}
+
+/// The least law that a year of a rule breaks, by the year of a kind from 2000 to 2024. Takes one step.
+fn year_fault<L: Ledger>(
+    rule: &YearRule,
+    small: bool,
+    kind: u8,
+    steps: &mut Steps<L>,
+) -> Result<(), ZoneFault>
+    requires kind { kind < 14 }
+    requires small { IsTrue small → IsSmall rule.now.raw × IsSmall (rule.now.raw +ℤ rule.now.extra) }
+    ensures told { (r : PlainRule) → rule.now ≡ kept_rule r
+        → TellsLeast (YearKeeps r (example_year kind)) result }
     ensures ticks { steps.new ≡ steps.old + 1 }
 {
-    let (before, first, second) = rule.year_at(year, steps);
+    let day = example_day(kind);
+    let (before, first, second) = rule.year_at(day, kind, steps);
+    let low = 86_400 * day;
+    let high = low + seconds_of_kind(kind);
+    if small && apart::lie_apart(low, first.since, second.since, high) {
+        return Ok(());
+    }
     let between = offset_from(&first);
-    let low = first_second(year);
-    let high = first_second(year + 1);
     pair_fault(
         step_walls(&before, &first),
         step_walls(&between, &second),
@@ -319,40 +355,17 @@ fn first_second(year: i32) -> i64
     86_400 * days_before_year(year)
 }
 
-// A year of each kind.
-const EXAMPLES: [u16; 14] = [
-    2001, 2002, 2003, 2009, 2010, 2005, 2006, 2024, 2008, 2020, 2004, 2016, 2000, 2012,
-];
-
-/// The first year from this one on that 400 divides.
-fn century_from(year: i32) -> i32
-    requires low { negsuc 134217727 ≤ℤ year }
-    requires high { year ≤ℤ pos 134217727 }
-    ensures { result ≡ pos 400 *ℤ int_div_euclid (year +ℤ pos 399) (pos 400) }
-{
-    (year + 399).div_euclid(400) * 400
-}
-
-/// The year of a kind among the 25 years from this one on, which 400 divides.
-fn sample_year(century: i32, kind: usize) -> i32
-    requires low { negsuc 200000000 ≤ℤ century }
-    requires high { century ≤ℤ pos 200000000 }
-    requires kind { kind < 14 }
-    ensures { result ≡ example_year kind +ℤ century -ℤ pos 2000 }
-{
-    century - 2000 + EXAMPLES[kind] as i32
-}
-
 /// The least law that a year of a rule breaks. All years of a kind break the same ones, so it looks at one of each.
 /// Takes 14 steps.
 fn years_fault<L: Ledger>(rule: &YearRule, steps: &mut Steps<L>) -> Result<(), ZoneFault>
     ensures told { (r : PlainRule) → rule.now ≡ kept_rule r → TellsLeast (YearsKeep r) result }
     ensures ticks { steps.new ≡ steps.old + 14 }
 {
-    let century = century_from(rule.first_year());
+    let (raw, sum) = rule.offsets();
+    let small = are_small(raw, sum);
     let mut least = Ok(());
     for kind in 0..14 {
-        let fault = year_fault(rule, sample_year(century, kind), steps);
+        let fault = year_fault(rule, small, kind, steps);
         least = least_of(least, fault);
     }
     least
@@ -383,7 +396,8 @@ fn rule_fault<L: Ledger>(
     if !are_small(raw, sum) {
         return Err(ZoneFault::Size);
     }
-    let (before, _, _) = rule.year_at(rule.first_year(), steps);
+    // All years begin with the same.
+    let (before, _, _) = rule.year_at(example_day(0), 0, steps);
     if !same_offset(last, before) {
         return Err(ZoneFault::Before);
     }

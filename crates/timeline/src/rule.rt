@@ -1,15 +1,13 @@
 //! The yearly rule of a zone, kept by kinds of year. Only `year_at` tells a year's transitions.
 ghost use Rattle.std.specs.Prelude.{◌≡◌, ◌+◌, ◌<◌, ℤ, pos, negsuc, ◌+ℤ◌, ◌-ℤ◌, ◌*ℤ◌, ◌<ℤ◌, ◌≤ℤ◌, if◌then◌else◌, not};
 ghost use Rattle.std.specs.Ordering.{int_eq};
-ghost use Rattle.civil.specs.Calendar.{year_start, year_kind};
 ghost use Rattle.timeline.specs.Zone.{fits_i32};
 ghost use Rattle.timeline.specs.Zone.{PlainRule};
 ghost use Rattle.timeline.specs.Rule.{first_entry, second_entry};
 ghost use Rattle.timeline.specs.Timeline.{offset_of};
-ghost use Rattle.timeline.specs.Inside.KeptRules.{KeptRule, kept_rule, kind_second, taken_off, kept_start, kept_end};
+ghost use Rattle.timeline.specs.Inside.KeptRules.{KeptRule, kept_rule, kind_second, taken_off, kept_start, kept_end, IsYearOf};
 
 use crate::offset::{Offset, Transition, UtcOffset};
-use civil::{days_before_year, year_kind};
 use std::marker::Model;
 use std::sync::ledger::Ledger;
 use steps::Steps;
@@ -111,6 +109,17 @@ fn transition(since: i64, offset: i32, rule_applies: bool) -> Transition
     }
 }
 
+/// The same transition. Where a choice is made between two of them, a copy would take the unused bytes too.
+fn made_anew(entry: &Transition) -> Transition
+    ensures { result ≡ entry.now }
+{
+    Transition {
+        since: entry.since,
+        offset: entry.offset,
+        rule_applies: entry.rule_applies,
+    }
+}
+
 /// The offset before the first of two transitions of a year, and both in their order.
 fn in_order(
     start_is_first: bool,
@@ -131,9 +140,9 @@ fn in_order(
         rule_applies,
     };
     if start_is_first {
-        (before, start, end)
+        (before, made_anew(&start), made_anew(&end))
     } else {
-        (before, end, start)
+        (before, made_anew(&end), made_anew(&start))
     }
 }
 
@@ -200,10 +209,11 @@ impl YearRule {
         }
     }
 
-    /// The standard offset of the zone, and the offset that its start brings.
+    /// The standard offset of the zone, and the offset that its start brings. The rule has years of all kinds.
     pub fn offsets(&self) -> (i32, i32)
         ensures raw { result.0 ≡ self.now.raw }
         ensures sum { result.1 ≡ self.now.raw +ℤ self.now.extra }
+        ensures years { self.now.first_year ≤ℤ pos 134217727 }
     {
         (self.raw, self.raw + self.extra)
     }
@@ -243,22 +253,27 @@ impl YearRule {
         transition(self.end.second(sum, raw, day, kind), raw, false)
     }
 
-    /// The offset before a year's first transition, and the year's two transitions. Takes one step.
+    /// The offset before a year's first transition, and the year's two transitions, by the year's first day and its kind.
+    /// Takes one step.
+    #[inline]
     pub fn year_at<L: Ledger>(
         &self,
-        year: i32,
+        day: i64,
+        kind: u8,
         steps: &mut Steps<L>,
     ) -> (Offset, Transition, Transition)
-        requires { year <ℤ pos 2147483647 }
-        ensures before { (r : PlainRule) → self.now ≡ kept_rule r
-            → result.0 ≡ offset_of (second_entry r year) }
-        ensures first { (r : PlainRule) → self.now ≡ kept_rule r → result.1 ≡ first_entry r year }
-        ensures second { (r : PlainRule) → self.now ≡ kept_rule r → result.2 ≡ second_entry r year }
+        requires kind { kind < 14 }
+        requires low { negsuc 799999999999 ≤ℤ day }
+        requires high { day ≤ℤ pos 800000000000 }
+        ensures before { (r : PlainRule) (y : ℤ) → self.now ≡ kept_rule r → IsYearOf y day kind
+            → result.0 ≡ offset_of (second_entry r y) }
+        ensures first { (r : PlainRule) (y : ℤ) → self.now ≡ kept_rule r → IsYearOf y day kind
+            → result.1 ≡ first_entry r y }
+        ensures second { (r : PlainRule) (y : ℤ) → self.now ≡ kept_rule r → IsYearOf y day kind
+            → result.2 ≡ second_entry r y }
         ensures ticks { steps.new ≡ steps.old + 1 }
     {
         steps.tick();
-        let day = days_before_year(year);
-        let kind = year_kind(year);
         in_order(
             self.start_is_first,
             self.start_in(day, kind),

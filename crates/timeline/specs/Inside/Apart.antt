@@ -8,6 +8,12 @@ use Rattle.timeline.specs.Laws.{IsSmall}
 abbrev pub IsApart : ℤ → ℤ → Type 0
 IsApart a b = (a +ℤ pos 172800) ≤ℤ b
 
+-- two transitions of a year lie a day or more from its ends, and two days or more from each other
+pub record LieApart (low first second high : ℤ) : Type 0 where
+  pub begin : (low +ℤ pos 86400) ≤ℤ first
+  pub between : IsApart first second
+  pub end : (second +ℤ pos 86400) ≤ℤ high
+
 -- the initial offset and those of the table are less than a day
 pub record AreSmall (z : PlainZone) : Type 0 where
   pub initial : IsSmall z.initial.offset

@@ -1,5 +1,5 @@
 -- How a zone is checked, entry by entry and kind by kind.
-use Rattle.std.specs.Prelude.{◌≡◌, ℕ, zero, suc, ◌+◌, nat_lt, nat_le, Bool, IsTrue, List, length, slice_get, Option, Some, None, IfSome, option_map, ℤ, pos, negsuc, ◌+ℤ◌, ◌<ℤ◌, ◌≤ℤ◌}
+use Rattle.std.specs.Prelude.{◌≡◌, ℕ, zero, suc, ◌+◌, nat_lt, nat_le, Bool, IsTrue, List, [], ◌∷◌, length, slice_get, slice_index, if◌then◌else◌, Option, Some, None, IfSome, option_map, ℤ, pos, negsuc, ◌+ℤ◌, ◌<ℤ◌, ◌≤ℤ◌}
 use Rattle.std.specs.Int.{int_min, int_max}
 use Rattle.timeline.specs.declared.offset.Offset.{Offset}
 use Rattle.timeline.specs.declared.offset.Transition.{Transition}
@@ -90,6 +90,14 @@ abbrev pub TableKeeps : Offset → List Transition → ℕ → ℕ → Option �
 TableKeeps initial table early late limit f = (n : ℕ) → KeepsAt initial table early late limit f n
 
 -- ---- the rule
+
+-- the first day of the example of a year of this kind
+abbrev pub example_day : ℕ → ℤ
+example_day k = pos (slice_index (11323 ∷ 11688 ∷ 12053 ∷ 14245 ∷ 14610 ∷ 12784 ∷ 13149 ∷ 19723 ∷ 13879 ∷ 18262 ∷ 12418 ∷ 16801 ∷ 10957 ∷ 15340 ∷ []) k)
+
+-- the seconds of a year of this kind: those from 7 on are leap years
+abbrev pub kind_seconds : ℕ → ℤ
+kind_seconds k = if nat_lt k 7 then pos 31536000 else pos 31622400
 
 -- what the laws ask of a year of a rule
 abbrev pub YearKeeps : PlainRule → ℤ → ZoneFault → Type 0

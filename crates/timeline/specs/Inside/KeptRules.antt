@@ -1,7 +1,8 @@
 -- What is kept of a yearly rule to tell its years by their kinds. Serves private contracts alone.
-use Rattle.std.specs.Prelude.{ℕ, ◌==◌, Bool, false, not, if◌then◌else◌, List, map, slice_index_or, ℤ, pos, ◌+ℤ◌, ◌-ℤ◌, ◌*ℤ◌}
+use Rattle.std.specs.Prelude.{◌≡◌, ℕ, ◌==◌, Bool, false, not, if◌then◌else◌, List, map, slice_index_or, ℤ, pos, ◌+ℤ◌, ◌-ℤ◌, ◌*ℤ◌}
 use Rattle.std.specs.Ordering.{int_eq}
 use Rattle.std.specs.List.{range_with_len}
+use Rattle.civil.specs.Calendar.{year_start, year_kind}
 use Rattle.timeline.specs.declared.offset.Transition.{Transition}
 use Rattle.timeline.specs.declared.rule.TimeMode.{TimeMode}
 use Rattle.timeline.specs.declared.rule.TimeMode.TheVariants.{Wall, Standard, Utc}
@@ -54,6 +55,11 @@ taken_off Utc before raw = pos 0
 abbrev pub kind_second : KindDate → ℤ → ℤ → ℤ → ℕ → ℤ
 kind_second d before raw start k =
     pos 86400 *ℤ (start +ℤ slice_index_or d.places k (pos 0)) +ℤ pos d.seconds -ℤ taken_off d.mode before raw
+
+-- the year begins on this day and is of this kind
+pub record IsYearOf (y day : ℤ) (k : ℕ) : Type 0 where
+  pub first_day : day ≡ year_start y
+  pub kind : k ≡ year_kind y
 
 -- the two transitions of the year
 abbrev pub kept_start : KeptRule → ℤ → ℕ → Transition

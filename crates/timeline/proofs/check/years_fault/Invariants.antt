@@ -1,4 +1,4 @@
-use Rattle.std.proofs.Common.{◌≡◌, ℕ, ◌+◌, ◌<◌, pos, ◌+ℤ◌, ◌-ℤ◌}
+use Rattle.std.proofs.Common.{◌≡◌, ℕ, ◌+◌, ◌<◌}
 use Rattle.civil.specs.Calendar.{example_year}
 use Rattle.timeline.specs.Zone.{PlainRule}
 use Rattle.timeline.specs.Inside.KeptRules.{kept_rule}
@@ -9,5 +9,5 @@ use Rattle.timeline.proofs.check.years_fault.Given as goal
 abbrev pub invariant-loop-kind : goal.invariant-loop-kind
 invariant-loop-kind g l = record {
   ticks : l.steps ≡ l.initial.steps + l.kind;
-  told : (r : PlainRule) → l.rule ≡ kept_rule r → TellsLeast (λ f. (m : ℕ) → m < l.kind → YearKeeps r (example_year m +ℤ l.century -ℤ pos 2000) f) l.least;
+  told : (r : PlainRule) → l.rule ≡ kept_rule r → TellsLeast (λ f. (m : ℕ) → m < l.kind → YearKeeps r (example_year m) f) l.least;
 }
