@@ -1,6 +1,7 @@
 -- An entry that lies days from the one before it keeps the laws, if its offsets, its part and the end of the table allow it.
-use Rattle.std.proofs.Common.{◌≡◌, ℕ, zero, suc, ◌+◌, ◌<◌, nat_lt, nat_le, List, All, get_or, length, slice_get, Option, Some, None, IfSome, option_map, add-one, refl, sym, subst, ◌∙◌, ℤ, pos, ◌+ℤ◌, ◌<ℤ◌, arith}
+use Rattle.std.proofs.Common.{◌≡◌, ℕ, zero, suc, ◌+◌, ◌<◌, ◌≤◌, nat_lt, nat_le, List, All, get_or, length, slice_get, Option, Some, None, IfSome, option_map, add-one, refl, sym, subst, ◌∙◌, ℤ, pos, ◌+ℤ◌, ◌<ℤ◌, arith}
 use Rattle.std.proofs.lemmas.Int.{ints, clamps}
+use Rattle.std.proofs.lemmas.Bool.Decides.{nat_tests}
 use Rattle.std.proofs.lemmas.Option.{slice_get_within}
 use Rattle.timeline.specs.declared.offset.Offset.{Offset}
 use Rattle.timeline.specs.declared.offset.Transition.{Transition}
@@ -95,6 +96,10 @@ entry_shown z limit n previous second before read part far small ends =
           since = omega (arith, ints, same, ends);
           latest = omega (arith, ints, clamps, same, ends, old.0, old.1, own.0, own.1);
         }
+
+-- an entry that is neither among the first ones nor among the last ones lies in its part
+pub in_middle : (n early late len : ℕ) (s : ℤ) → early ≤ n → n + late < len → InPart (nat_lt n early) (nat_le len (n + late)) s
+in_middle n early late len s low high = record { in_early = λ t. absurd (grind (arith, nat_tests, t, low)); in_late = λ t. absurd (grind (arith, nat_tests, t, high)) }
 
 -- ---- offsets by their pairs
 

@@ -1,5 +1,5 @@
 //! Whether a zone keeps the eight laws.
-ghost use Rattle.std.specs.Prelude.{◌≡◌, ◌+◌, ◌≤◌, ◌<◌, ◌↔◌, IsTrue, IfSome, Some, slice_get, nat_le, length, ℤ, pos, negsuc, ◌+ℤ◌, ◌-ℤ◌, ◌*ℤ◌, ◌<ℤ◌, ◌≤ℤ◌};
+ghost use Rattle.std.specs.Prelude.{◌≡◌, ℕ, ◌+◌, ◌-◌, ◌≤◌, ◌<◌, ◌↔◌, IsTrue, IfSome, Some, slice_get, nat_le, length, ℤ, pos, negsuc, ◌+ℤ◌, ◌-ℤ◌, ◌*ℤ◌, ◌<ℤ◌, ◌≤ℤ◌};
 ghost use Rattle.civil.specs.Calendar.{year_second, example_year};
 ghost use Rattle.timeline.specs.Zone.{PlainRule};
 ghost use Rattle.timeline.specs.Rule.{second_entry};
@@ -9,7 +9,8 @@ ghost use Rattle.timeline.specs.Laws.{IsSmall, step};
 ghost use Rattle.timeline.specs.declared.offset.Transition.{Transition as Entry};
 ghost use Rattle.timeline.specs.Fault.{Keeps};
 ghost use Rattle.timeline.specs.Inside.LeastFaults.{TellsLeast};
-ghost use Rattle.timeline.specs.Inside.CheckSteps.{walls, AreNear, AreWalled, EndBefore, BeginFrom, LieIn, InPart, IsSecondAt, IsSecondBefore, EntryKeeps, KeepsAt, TableKeeps, table_before, table_walls, walls_before, example_day, kind_seconds, PairKeeps, YearKeeps, YearsKeep, RuleKeeps, SizeKept};
+ghost use Rattle.timeline.specs.Inside.CheckSteps.{walls, AreNear, AreWalled, EndBefore, BeginFrom, LieIn, InPart, IsSecondAt, IsSecondBefore, IsPassed, EntryKeeps, KeepsAt, TableKeeps, table_before, table_walls, walls_before, example_day, kind_seconds, PairKeeps, YearKeeps, YearsKeep, RuleKeeps, SizeKept};
+ghost use Rattle.timeline.specs.Inside.Apart.{IsEnd};
 
 use crate::data::ZoneData;
 use crate::dates::ZoneRule;
@@ -242,6 +243,76 @@ fn fault_at(
     entry_fault(early, late, before, walls, after, limit)
 }
 
+/// What was found of the first entries of a table: the least law that they break, and the second of
+/// the last of them. No entry stands before the first one, so that is taken to lie far behind it.
+#[derive(Clone, Copy)]
+pub struct Passed {
+    least: Result<(), ZoneFault>,
+    previous: i64,
+}
+
+/// What is found of the entries before the number `to`, by what was found of those before `from`.
+/// Takes a step for each entry between.
+fn pass_outer<L: Ledger>(
+    zone: &ZoneData,
+    limit: Option<i64>,
+    end: i64,
+    from: usize,
+    to: usize,
+    passed: Passed,
+    steps: &mut Steps<L>,
+) -> Passed
+    requires from { from ≤ to }
+    requires to { to ≤ length zone.now.table }
+    requires end { IsEnd zone.now limit end }
+    requires passed { IsPassed zone.now limit from passed }
+    ensures passed { IsPassed zone.now limit to result }
+    ensures ticks { steps.new ≡ steps.old + (to - from) }
+{
+    let mut least = passed.least;
+    let mut previous = passed.previous;
+    for n in from..to {
+        let second = zone.second_at(n, steps);
+        if !apart::shows_laws(zone, n, previous, second, end) {
+            least = least_of(least, fault_at(zone, limit, n, previous, second));
+        }
+        previous = second;
+    }
+    Passed { least, previous }
+}
+
+/// The same, where the entries between are neither among the first ones of the table nor among the
+/// last ones, as nearly all are. So no test of their part is made.
+fn pass_middle<L: Ledger>(
+    zone: &ZoneData,
+    limit: Option<i64>,
+    end: i64,
+    from: usize,
+    to: usize,
+    passed: Passed,
+    steps: &mut Steps<L>,
+) -> Passed
+    requires from { from ≤ to }
+    requires to { to ≤ length zone.now.table }
+    requires middle { (n : ℕ) → from ≤ n → n < to
+        → (zone.now.early ≤ n) × (n + zone.now.late < length zone.now.table) }
+    requires end { IsEnd zone.now limit end }
+    requires passed { IsPassed zone.now limit from passed }
+    ensures passed { IsPassed zone.now limit to result }
+    ensures ticks { steps.new ≡ steps.old + (to - from) }
+{
+    let mut least = passed.least;
+    let mut previous = passed.previous;
+    for n in from..to {
+        let second = zone.second_at(n, steps);
+        if !apart::lie_days_apart(previous, second, end) {
+            least = least_of(least, fault_at(zone, limit, n, previous, second));
+        }
+        previous = second;
+    }
+    Passed { least, previous }
+}
+
 /// The least law that a table breaks, with the second that it is to end before. Takes a step for each entry.
 fn table_fault<L: Ledger>(
     zone: &ZoneData,
@@ -252,20 +323,17 @@ fn table_fault<L: Ledger>(
         (TableKeeps zone.now.initial zone.now.table zone.now.early zone.now.late limit) result }
     ensures ticks { steps.new ≡ steps.old + length zone.now.table }
 {
-    let mut least = Ok(());
-    // No entry stands before the first one, so it is taken to lie far behind it.
-    let mut previous = i64::MIN;
-    let early = zone.early();
-    let middle = apart::middle_len(zone.len(), early, zone.late());
+    let len = zone.len();
+    let low = zone.early().min(len);
+    let high = len.saturating_sub(zone.late()).max(low);
     let end = apart::shown_end(zone, limit);
-    for n in 0..zone.len() {
-        let second = zone.second_at(n, steps);
-        if !apart::shows_laws(zone, early, middle, n, previous, second, end) {
-            least = least_of(least, fault_at(zone, limit, n, previous, second));
-        }
-        previous = second;
-    }
-    least
+    let start = Passed {
+        least: Ok(()),
+        previous: i64::MIN,
+    };
+    let first = pass_outer(zone, limit, end, 0, low, start, steps);
+    let middle = pass_middle(zone, limit, end, low, high, first, steps);
+    pass_outer(zone, limit, end, high, len, middle, steps).least
 }
 
 /// The least law that the two transitions of a year break, with the year's first second and that of the next year.
@@ -293,8 +361,8 @@ fn seconds_of_kind(kind: u8) -> i64
     if kind < 7 { 31_536_000 } else { 31_622_400 }
 }
 
-// The first day of a year of each kind: of 2001, 2002, 2003, 2009, 2010, 2005 and 2006, and of the leap years 2024, 2008,
-// 2020, 2004, 2016, 2000 and 2012.
+// The first day of a year of each kind: of 2001, 2002, 2003, 2009, 2010, 2005 and 2006, and of the
+// leap years 2024, 2008, 2020, 2004, 2016, 2000 and 2012.
 const EXAMPLE_DAYS: [u16; 14] = [
     11_323, 11_688, 12_053, 14_245, 14_610, 12_784, 13_149, 19_723, 13_879, 18_262, 12_418, 16_801,
     10_957, 15_340,
@@ -310,7 +378,7 @@ fn example_day(kind: u8) -> i64
     EXAMPLE_DAYS[kind as usize] as i64
 }
 
-/// The least law that a year of a rule breaks, by the year of a kind from 2000 to 2024. Takes one step.
+/// The least law that the year of a kind from 2000 to 2024 breaks by a rule. Takes one step.
 fn year_fault<L: Ledger>(
     rule: &YearRule,
     small: bool,
@@ -396,7 +464,7 @@ fn rule_fault<L: Ledger>(
     if !are_small(raw, sum) {
         return Err(ZoneFault::Size);
     }
-    // All years begin with the same.
+    // Any year will do: what holds before the first transition is the same in all.
     let (before, _, _) = rule.year_at(example_day(0), 0, steps);
     if !same_offset(last, before) {
         return Err(ZoneFault::Before);

@@ -65,8 +65,8 @@ pub(crate) fn before_entry(zone: &ZoneData, number: usize) -> Offset
     }
 }
 
-/// The offset before the first transition of a year, and the year's two; the step goes to the caller's ledger. It stands
-/// outside of the look-ups, which are small enough then to stand where they are called.
+/// The offset before the first transition of a year, and the year's two; the step goes to the
+/// caller's ledger. It stands outside of the look-ups, which stay short by that.
 #[inline(never)]
 fn year_from<L: Ledger>(
     rule: &YearRule,

@@ -109,7 +109,7 @@ fn transition(since: i64, offset: i32, rule_applies: bool) -> Transition
     }
 }
 
-/// The same transition. Where a choice is made between two of them, a copy would take the unused bytes too.
+/// The same transition. Where a choice is made between two, a copy would take the unused bytes too.
 fn made_anew(entry: &Transition) -> Transition
     ensures { result ≡ entry.now }
 {
@@ -209,7 +209,8 @@ impl YearRule {
         }
     }
 
-    /// The standard offset of the zone, and the offset that its start brings. The rule has years of all kinds.
+    /// The standard offset of the zone, and the offset that its start brings. From its first year on
+    /// the rule has years of all kinds.
     pub fn offsets(&self) -> (i32, i32)
         ensures raw { result.0 ≡ self.now.raw }
         ensures sum { result.1 ≡ self.now.raw +ℤ self.now.extra }
@@ -253,8 +254,8 @@ impl YearRule {
         transition(self.end.second(sum, raw, day, kind), raw, false)
     }
 
-    /// The offset before a year's first transition, and the year's two transitions, by the year's first day and its kind.
-    /// Takes one step.
+    /// The offset before a year's first transition, and the year's two transitions, by its first day
+    /// and its kind. Takes one step.
     #[inline]
     pub fn year_at<L: Ledger>(
         &self,

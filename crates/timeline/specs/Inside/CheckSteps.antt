@@ -1,12 +1,14 @@
 -- How a zone is checked, entry by entry and kind by kind.
-use Rattle.std.specs.Prelude.{◌≡◌, ℕ, zero, suc, ◌+◌, nat_lt, nat_le, Bool, IsTrue, List, [], ◌∷◌, length, slice_get, slice_index, if◌then◌else◌, Option, Some, None, IfSome, option_map, ℤ, pos, negsuc, ◌+ℤ◌, ◌<ℤ◌, ◌≤ℤ◌}
+use Rattle.std.specs.Prelude.{◌≡◌, ℕ, zero, suc, ◌+◌, ◌<◌, nat_lt, nat_le, Bool, IsTrue, List, [], ◌∷◌, length, slice_get, slice_index, if◌then◌else◌, Option, Some, None, IfSome, option_map, ℤ, pos, negsuc, ◌+ℤ◌, ◌<ℤ◌, ◌≤ℤ◌}
 use Rattle.std.specs.Int.{int_min, int_max}
 use Rattle.timeline.specs.declared.offset.Offset.{Offset}
 use Rattle.timeline.specs.declared.offset.Transition.{Transition}
 use Rattle.timeline.specs.declared.fault.ZoneFault.{ZoneFault}
 use Rattle.timeline.specs.declared.fault.ZoneFault.TheVariants as fault
 use Rattle.timeline.specs.declared.check.Walls.{Walls}
-use Rattle.timeline.specs.Zone.{PlainRule}
+use Rattle.timeline.specs.declared.check.Passed.{Passed}
+use Rattle.timeline.specs.Zone.{PlainRule, PlainZone}
+use Rattle.timeline.specs.Inside.LeastFaults.{TellsLeast}
 use Rattle.timeline.specs.Rule.{first_entry, second_entry}
 use Rattle.timeline.specs.Timeline.{offset_of, offset_or}
 use Rattle.timeline.specs.Laws.{Step, step, IsSmall, IsNear, IsWalled, IsYearLawful}
@@ -88,6 +90,11 @@ KeepsAt initial table early late limit f n = (e : Transition) → slice_get tabl
 -- and of the table
 abbrev pub TableKeeps : Offset → List Transition → ℕ → ℕ → Option ℤ → ZoneFault → Type 0
 TableKeeps initial table early late limit f = (n : ℕ) → KeepsAt initial table early late limit f n
+
+-- what was found of the first n entries
+pub record IsPassed (z : PlainZone) (limit : Option ℤ) (n : ℕ) (p : Passed) : Type 0 where
+  pub told : TellsLeast (λ f. (m : ℕ) → m < n → KeepsAt z.initial z.table z.early z.late limit f m) p.least
+  pub before : IsSecondBefore z.table n p.previous
 
 -- ---- the rule
 

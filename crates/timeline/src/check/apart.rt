@@ -1,5 +1,5 @@
 //! Entries that lie days apart, as nearly all do: their seconds alone show that they keep the laws.
-ghost use Rattle.std.specs.Prelude.{◌≡◌, ◌+◌, ◌-◌, ◌^◌, ◌<◌, ◌≤◌, ◌↔◌, IsTrue, IfSome, nat_lt, nat_le, length, ℤ, pos, negsuc, ◌+ℤ◌, ◌<ℤ◌, ◌≤ℤ◌};
+ghost use Rattle.std.specs.Prelude.{◌≡◌, ◌+◌, ◌<◌, ◌≤◌, ◌↔◌, IsTrue, IfSome, nat_lt, nat_le, length, ℤ, pos, negsuc, ◌+ℤ◌, ◌<ℤ◌, ◌≤ℤ◌};
 ghost use Rattle.timeline.specs.Inside.CheckSteps.{InPart};
 ghost use Rattle.timeline.specs.Inside.Apart.{IsApart, AreSmall, LieApart};
 
@@ -35,66 +35,43 @@ fn lies_between(low: i64, second: i64, end: i64) -> bool
     second < end && low <= second
 }
 
-/// How many entries of a table are neither among the first ones nor among the last ones.
-pub fn middle_len(len: usize, early: usize, late: usize) -> usize
-    ensures value { result ≡ len - early - late }
-    ensures fits { early + result < 2 ^ 64 }
+/// Whether a second lies two days or more after another one, and less two days before an end.
+pub fn lie_days_apart(previous: i64, second: i64, end: i64) -> bool
+    requires { end ≤ℤ pos 9223372036854603008 }
+    ensures { IsTrue result → IsApart previous second × (second <ℤ (end +ℤ pos 172800)) }
 {
-    len.saturating_sub(early).saturating_sub(late)
-}
-
-/// Whether the nth entry of a table is one of so many that follow the first ones.
-fn is_in_middle(early: usize, middle: usize, n: usize) -> bool
-    requires { early + middle < 2 ^ 64 }
-    ensures { IsTrue result → (early ≤ n) × (n < early + middle) }
-{
-    // One comparison: where n is less than `early`, the difference wraps to a number past all tables.
-    n.wrapping_sub(early) < middle
+    lies_between(previous, two_days_before(second), end)
 }
 
 /// Whether the nth entry of a table, whose second this is, lies in its part.
-fn shows_part(zone: &ZoneData, early: usize, middle: usize, n: usize, second: i64) -> bool
-    requires within { n < length zone.now.table }
-    requires early { early ≡ zone.now.early }
-    requires middle { middle ≡ length zone.now.table - zone.now.early - zone.now.late }
-    requires fits { early + middle < 2 ^ 64 }
+fn lies_in_part(zone: &ZoneData, n: usize, second: i64) -> bool
+    requires { n < length zone.now.table }
     ensures { IsTrue result
         → InPart (nat_lt n zone.now.early)
         (nat_le (length zone.now.table) (n + zone.now.late)) second }
 {
-    if is_in_middle(early, middle, n) {
-        return true;
-    }
-    is_in_part(n < early, is_late(zone.len(), n, zone.late()), second)
+    is_in_part(
+        n < zone.early(),
+        is_late(zone.len(), n, zone.late()),
+        second,
+    )
 }
 
-/// Whether the nth entry of a table shows by its second that it lies in its part, two days or more after the one before it,
-/// and before an end. One that does not may keep the laws too.
-pub fn shows_laws(
-    zone: &ZoneData,
-    early: usize,
-    middle: usize,
-    n: usize,
-    previous: i64,
-    second: i64,
-    end: i64,
-) -> bool
+/// Whether the nth entry of a table shows by its second that it lies in its part, two days or more
+/// after the one before it, and before an end. One that does not may keep the laws too.
+pub fn shows_laws(zone: &ZoneData, n: usize, previous: i64, second: i64, end: i64) -> bool
     requires within { n < length zone.now.table }
-    requires early { early ≡ zone.now.early }
-    requires middle { middle ≡ length zone.now.table - zone.now.early - zone.now.late }
-    requires fits { early + middle < 2 ^ 64 }
     requires wraps { end ≤ℤ pos 9223372036854603008 }
     ensures { IsTrue result
         → InPart (nat_lt n zone.now.early)
         (nat_le (length zone.now.table) (n + zone.now.late)) second
         × (IsApart previous second × (second <ℤ (end +ℤ pos 172800))) }
 {
-    lies_between(previous, two_days_before(second), end)
-        && shows_part(zone, early, middle, n, second)
+    lie_days_apart(previous, second, end) && lies_in_part(zone, n, second)
 }
 
-/// Whether two transitions of a year, with its first second and that of the next year, lie a day or more from its ends and
-/// two days or more from each other. Some that do not keep the laws too.
+/// Whether two transitions of a year, with its first second and that of the next year, lie a day or
+/// more from its ends and two days or more from each other. Some that do not keep the laws too.
 pub fn lie_apart(low: i64, first: i64, second: i64, high: i64) -> bool
     requires low { low <ℤ pos 1000000000000 }
     requires high { negsuc 1000000000000 <ℤ high }
