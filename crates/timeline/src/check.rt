@@ -1,6 +1,6 @@
 //! Whether a zone keeps the eight laws.
-ghost use Rattle.std.specs.Prelude.{◌≡◌, ℕ, ◌+◌, ◌-◌, ◌≤◌, ◌<◌, ◌↔◌, IsTrue, IfSome, Some, slice_get, nat_le, length, ℤ, pos, negsuc, ◌+ℤ◌, ◌-ℤ◌, ◌*ℤ◌, ◌<ℤ◌, ◌≤ℤ◌};
-ghost use Rattle.civil.specs.Calendar.{year_second, example_year};
+ghost use Rattle.std.specs.Prelude.{◌≡◌, ℕ, ◌+◌, ◌-◌, ◌≤◌, ◌<◌, ◌↔◌, IsTrue, IfSome, Some, slice_get, nat_le, length, ◌+ℤ◌, ◌<ℤ◌, ◌≤ℤ◌};
+ghost use Rattle.civil.specs.Calendar.{example_year};
 ghost use Rattle.timeline.specs.Zone.{PlainRule};
 ghost use Rattle.timeline.specs.Rule.{second_entry};
 ghost use Rattle.timeline.specs.Timeline.{offset_of};
@@ -9,7 +9,7 @@ ghost use Rattle.timeline.specs.Laws.{IsSmall, step};
 ghost use Rattle.timeline.specs.declared.offset.Transition.{Transition as Entry};
 ghost use Rattle.timeline.specs.Fault.{Keeps};
 ghost use Rattle.timeline.specs.Inside.LeastFaults.{TellsLeast};
-ghost use Rattle.timeline.specs.Inside.CheckSteps.{walls, AreNear, AreWalled, EndBefore, BeginFrom, LieIn, InPart, IsSecondAt, IsSecondBefore, IsPassed, EntryKeeps, KeepsAt, TableKeeps, table_before, table_walls, walls_before, example_day, kind_seconds, PairKeeps, YearKeeps, YearsKeep, RuleKeeps, SizeKept};
+ghost use Rattle.timeline.specs.Inside.CheckSteps.{walls, AreNear, AreWalled, EndBefore, BeginFrom, LieIn, InPart, IsSecondAt, IsSecondBefore, IsPassed, EntryKeeps, KeepsAt, TableKeeps, table_before, table_walls, walls_before, PairKeeps, YearKeeps, YearsKeep, RuleKeeps, SizeKept};
 ghost use Rattle.timeline.specs.Inside.Apart.{IsEnd};
 
 use crate::data::ZoneData;
@@ -17,11 +17,12 @@ use crate::dates::ZoneRule;
 use crate::fault::{ZoneFault, least_of};
 use crate::offset::{Offset, Transition};
 use crate::rule::YearRule;
-use civil::days_before_year;
 use std::sync::ledger::Ledger;
 use steps::Steps;
+use years::{example_day, first_second, seconds_of_kind};
 
 mod apart;
+mod years;
 
 /// A transition's second, and the earlier and the later of its walls: its second plus the offset before it, and its
 /// second plus its own. In 128 bits no wall wraps.
@@ -218,9 +219,8 @@ fn walls_before(zone: &ZoneData, n: usize, previous: i64) -> Option<Walls>
     }
 }
 
-/// The least law that the nth entry of a table breaks, with the second that the table is to end before. The second of the
-/// entry before it, if there is one, and its own are the ones given. Few entries need it, so it stands outside the loop.
-#[inline(never)]
+/// The least law that the nth entry of a table breaks, with the second that the table is to end
+/// before. The second of the entry before it, if there is one, and its own are the ones given.
 fn fault_at(
     zone: &ZoneData,
     limit: Option<i64>,
@@ -241,6 +241,32 @@ fn fault_at(
     let walls = walls_at(zone, n, second);
     let after = zone.offset_at(n).offset.seconds();
     entry_fault(early, late, before, walls, after, limit)
+}
+
+/// The least law that the entries up to the nth one break, by that of those before it. Few entries
+/// need it, so it stands outside the loops.
+#[inline(never)]
+fn add_fault(
+    zone: &ZoneData,
+    limit: Option<i64>,
+    n: usize,
+    previous: i64,
+    second: i64,
+    least: Result<(), ZoneFault>,
+) -> Result<(), ZoneFault>
+    requires within { n < length zone.now.table }
+    requires previous { IsSecondBefore zone.now.table n previous }
+    requires second { IsSecondAt zone.now.table n second }
+    ensures { TellsLeast
+        (λ f. (m : ℕ) → m < n
+        → KeepsAt zone.now.initial zone.now.table zone.now.early zone.now.late limit f m)
+        least
+        → TellsLeast
+        (λ f. (m : ℕ) → m < n + 1
+        → KeepsAt zone.now.initial zone.now.table zone.now.early zone.now.late limit f m)
+        result }
+{
+    least_of(least, fault_at(zone, limit, n, previous, second))
 }
 
 /// What was found of the first entries of a table: the least law that they break, and the second of
@@ -274,7 +300,7 @@ fn pass_outer<L: Ledger>(
     for n in from..to {
         let second = zone.second_at(n, steps);
         if !apart::shows_laws(zone, n, previous, second, end) {
-            least = least_of(least, fault_at(zone, limit, n, previous, second));
+            least = add_fault(zone, limit, n, previous, second, least);
         }
         previous = second;
     }
@@ -306,7 +332,7 @@ fn pass_middle<L: Ledger>(
     for n in from..to {
         let second = zone.second_at(n, steps);
         if !apart::lie_days_apart(previous, second, end) {
-            least = least_of(least, fault_at(zone, limit, n, previous, second));
+            least = add_fault(zone, limit, n, previous, second, least);
         }
         previous = second;
     }
@@ -352,32 +378,6 @@ fn pair_fault(first: Walls, second: Walls, low: i64, high: i64) -> Result<(), Zo
     Ok(())
 }
 
-/// The seconds of a year of a kind.
-fn seconds_of_kind(kind: u8) -> i64
-    ensures value { result ≡ kind_seconds kind }
-    ensures low { pos 0 ≤ℤ result }
-    ensures high { result ≤ℤ pos 31622400 }
-{
-    if kind < 7 { 31_536_000 } else { 31_622_400 }
-}
-
-// The first day of a year of each kind: of 2001, 2002, 2003, 2009, 2010, 2005 and 2006, and of the
-// leap years 2024, 2008, 2020, 2004, 2016, 2000 and 2012.
-const EXAMPLE_DAYS: [u16; 14] = [
-    11_323, 11_688, 12_053, 14_245, 14_610, 12_784, 13_149, 19_723, 13_879, 18_262, 12_418, 16_801,
-    10_957, 15_340,
-];
-
-/// The first day of a year of a kind, from 2000 to 2024.
-fn example_day(kind: u8) -> i64
-    requires { kind < 14 }
-    ensures value { result ≡ example_day kind }
-    ensures low { pos 0 ≤ℤ result }
-    ensures high { result ≤ℤ pos 65535 }
-{
-    EXAMPLE_DAYS[kind as usize] as i64
-}
-
 /// The least law that the year of a kind from 2000 to 2024 breaks by a rule. Takes one step.
 fn year_fault<L: Ledger>(
     rule: &YearRule,
@@ -414,13 +414,6 @@ fn offset_from(entry: &Transition) -> Offset
         offset: entry.offset,
         rule_applies: entry.rule_applies,
     }
-}
-
-/// The first second of a year.
-fn first_second(year: i32) -> i64
-    ensures { result ≡ year_second year }
-{
-    86_400 * days_before_year(year)
 }
 
 /// The least law that a year of a rule breaks. All years of a kind break the same ones, so it looks at one of each.

@@ -1,5 +1,5 @@
 //! The yearly rule of a zone, kept by kinds of year. Only `year_at` tells a year's transitions.
-ghost use Rattle.std.specs.Prelude.{◌≡◌, ◌+◌, ◌<◌, ℤ, pos, negsuc, ◌+ℤ◌, ◌-ℤ◌, ◌*ℤ◌, ◌<ℤ◌, ◌≤ℤ◌, if◌then◌else◌, not};
+ghost use Rattle.std.specs.Prelude.{◌≡◌, ◌+◌, ◌<◌, ℤ, pos, negsuc, ◌+ℤ◌, ◌-ℤ◌, ◌*ℤ◌, ◌≤ℤ◌, if◌then◌else◌, not};
 ghost use Rattle.std.specs.Ordering.{int_eq};
 ghost use Rattle.timeline.specs.Zone.{fits_i32};
 ghost use Rattle.timeline.specs.Zone.{PlainRule};

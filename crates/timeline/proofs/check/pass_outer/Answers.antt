@@ -1,10 +1,10 @@
-use Rattle.std.proofs.Common.{◌≡◌, ℕ, ℤ, ◌<◌, ◌+◌, pos, negsuc, ◌+ℤ◌, ◌<ℤ◌, to_z, of_z, to_z-of_z, FitsSigned, w64, rules, sym, ◌∙◌, subst, arith}
+use Rattle.std.proofs.Common.{◌≡◌, ℕ, ℤ, ◌<◌, ◌+◌, pos, negsuc, ◌+ℤ◌, ◌<ℤ◌, to_z, of_z, to_z-of_z, FitsSigned, w64, rules, sym, subst, arith}
 use Rattle.civil.proofs.SignedLemmas.{signed_arith}
 use Rattle.timeline.specs.declared.fault.ZoneFault.{ZoneFault}
 use Rattle.timeline.specs.Inside.LeastFaults.{TellsLeast}
 use Rattle.timeline.specs.Inside.CheckSteps.{IsSecondAt, KeepsAt}
 use Rattle.timeline.specs.Inside.Apart.{IsApart}
-use Rattle.timeline.proofs.LeastFaults.{Told, tells_more, tells_kept}
+use Rattle.timeline.proofs.LeastFaults.{Told, tells_kept}
 use Rattle.timeline.proofs.CheckLaws.{second_passed}
 use Rattle.timeline.proofs.Apart.{entry_shown}
 use Rattle.timeline.proofs.check.pass_outer.Goals as goal
@@ -24,7 +24,7 @@ loop-n-preserved g c =
     let R : ℤ → Type 0 = λ e. second <ℤ (e +ℤ pos 172800) in
     record {
       told = elim c.if-not-shows_laws.branch [
-        | then-not-shows_laws w ↦ subst P (sym (w.least-is ∙ w.least_of-least.ensures)) (tells_more K n _ _ c.loop-n.invariant.told w.fault_at.ensures)
+        | then-not-shows_laws w ↦ subst P (sym w.least-is) (w.add_fault-least.ensures c.loop-n.invariant.told)
         | else-not-shows_laws w ↦
             let shown = c.shows_laws.ensures w.if-not-shows_laws.false in
             let far = shown.1.0 in
