@@ -214,16 +214,25 @@ fn seconds(
     Ok(Seconds::new(list, wide_len(early), wide_len(late)))
 }
 
+/// The largest number, 0 where there is none. The loop has no exit, so that it takes many numbers at once.
+fn largest(numbers: &[u8]) -> u8
+    ensures bound { All (λ n. n ≤ result) numbers.now }
+    ensures least { (len : ℕ) → 0 < len → All (λ n. n < len) numbers.now → result < len }
+{
+    let mut largest = 0;
+    for number in numbers {
+        if *number > largest {
+            largest = *number;
+        }
+    }
+    largest
+}
+
 /// Whether each number is below that length.
 fn are_below(numbers: &[u8], len: usize) -> bool
     ensures { IsTrue result ↔ All (λ n. n < len) numbers.now }
 {
-    for number in numbers {
-        if usize::from(*number) >= len {
-            return false;
-        }
-    }
-    true
+    numbers.is_empty() || usize::from(largest(numbers)) < len
 }
 
 /// Whether each second of three lists of words has the number of a pair.
