@@ -2,6 +2,7 @@ pub mod CheckedPlaces
 pub mod Names
 pub mod TextOrder
 pub mod NameOrder
+pub mod AsciiNames
 pub mod FieldParts
 pub mod Fronts
 pub mod Pairs

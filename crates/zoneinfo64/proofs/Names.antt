@@ -1,6 +1,6 @@
 -- Where a text stands among entries whose names rise: those before a smaller one are smaller, those after a greater one
 -- are greater, and the place found so is that of the zone of this name.
-use Rattle.std.proofs.Common.{◌≡◌, ℕ, zero, suc, ◌+◌, ◌<◌, ◌≤◌, Bool, true, false, IsTrue, List, [], ◌∷◌, length, All, Option, Some, None, is_some, position, refl, sym, ap, ◌∙◌, subst, inl, inr, ◌⊎◌, arith}
+use Rattle.std.proofs.Common.{◌≡◌, ℕ, zero, suc, ◌+◌, ◌<◌, ◌≤◌, Bool, true, false, IsTrue, List, [], ◌∷◌, length, Option, Some, None, is_some, position, refl, sym, ap, ◌∙◌, subst, inl, inr, ◌⊎◌, arith}
 use Rattle.std.proofs.lemmas.Bool.Decides.{nat_tests}
 use Rattle.std.proofs.lemmas.Cmp.{alike_right}
 use Rattle.std.proofs.lemmas.Option.{slice_get_within}
@@ -11,17 +11,15 @@ use Rattle.std.specs.declared.cmp.Ordering.{Ordering}
 use Rattle.std.specs.declared.cmp.Ordering.TheVariants.{Less, Equal, Greater}
 use Rattle.std.specs.Cmp.Lexicographic.{slice_cmp, nat_list_cmp_total, texts_ties}
 use Rattle.std.specs.Str.{bytes_eq}
-use Rattle.std.specs.String.{string_bytes}
-use Rattle.std.proofs.lemmas.List.Elements.{All-head, All-tail}
 use Rattle.std.proofs.lemmas.List.{length-map}
 use Rattle.zoneinfo64.specs.declared.zone.Named.{Named}
 use Rattle.timeline.specs.Zone.{PlainZone}
 use Rattle.zoneinfo64.specs.Bundle.{rises, is_resolved, all_resolved}
 use Rattle.zoneinfo64.specs.NamedZone.{NamedZone, Place, IsZone, IsAlias, name_text, resolved, resolved_in, entry_named, place_named, named}
-use Rattle.zoneinfo64.specs.Inside.ZoneList.{AreEntries, HasText, named_of, zones_of}
+use Rattle.zoneinfo64.specs.Inside.ZoneList.{AreEntries, named_of, zones_of}
 
 abbrev pub text : Named → List ℕ
-text e = string_bytes e.text
+text e = name_text e.name
 
 abbrev order : List ℕ → List ℕ → Ordering
 order = slice_cmp nat_cmp
@@ -32,37 +30,32 @@ is_less Equal h = cc
 is_less Greater h = cc
 
 -- the first entry's text is below that of each later one
-head_below : (a : Named) (es : List Named) → All HasText (a ∷ es) → IsTrue (rises (zones_of (a ∷ es)))
+head_below : (a : Named) (es : List Named) → IsTrue (rises (zones_of (a ∷ es)))
     → (j : ℕ) (b : Named) → slice_get es j ≡ Some b → order (text a) (text b) ≡ Less
-head_below a [] texts rising j b at = cc
-head_below a (c ∷ es) texts rising zero b at =
-    let here : order (name_text a.name) (name_text c.name) ≡ Less = is_less _ (first_so _ (rises (zones_of (c ∷ es))) rising) in
-    let ta : text a ≡ name_text a.name = All-head HasText a (c ∷ es) texts in
-    let tc : text c ≡ name_text c.name = All-head HasText c es (All-tail HasText a (c ∷ es) texts) in
+head_below a [] rising j b at = cc
+head_below a (c ∷ es) rising zero b at =
+    let here : order (text a) (text c) ≡ Less = is_less _ (first_so _ (rises (zones_of (c ∷ es))) rising) in
     let same : c ≡ b = cc in
-    subst (λ (e : Named). order (text a) (text e) ≡ Less) same (rw (ta, tc) here)
-head_below a (c ∷ es) texts rising (suc j) b at =
-    let here : order (name_text a.name) (name_text c.name) ≡ Less = is_less _ (first_so _ (rises (zones_of (c ∷ es))) rising) in
-    let ta : text a ≡ name_text a.name = All-head HasText a (c ∷ es) texts in
-    let tc : text c ≡ name_text c.name = All-head HasText c es (All-tail HasText a (c ∷ es) texts) in
-    let step : order (text a) (text c) ≡ Less = rw (ta, tc) here in
-    nat_list_cmp_total.trans (text a) (text c) (text b) step
-    (head_below c es (All-tail HasText a (c ∷ es) texts) (second_so _ (rises (zones_of (c ∷ es))) rising) j b at)
+    subst (λ (e : Named). order (text a) (text e) ≡ Less) same here
+head_below a (c ∷ es) rising (suc j) b at =
+    let here : order (text a) (text c) ≡ Less = is_less _ (first_so _ (rises (zones_of (c ∷ es))) rising) in
+    nat_list_cmp_total.trans (text a) (text c) (text b) here
+    (head_below c es (second_so _ (rises (zones_of (c ∷ es))) rising) j b at)
 
 tail_rises : (a : Named) (es : List Named) → IsTrue (rises (zones_of (a ∷ es))) → IsTrue (rises (zones_of es))
 tail_rises a [] rising = refl
 tail_rises a (c ∷ es) rising = second_so _ (rises (zones_of (c ∷ es))) rising
 
 -- an earlier entry's text is below a later one's
-texts_rise : (es : List Named) → All HasText es → IsTrue (rises (zones_of es))
+texts_rise : (es : List Named) → IsTrue (rises (zones_of es))
     → (i j : ℕ) (a b : Named) → slice_get es i ≡ Some a → slice_get es j ≡ Some b → i < j → order (text a) (text b) ≡ Less
-texts_rise [] texts rising i j a b at_i at_j lt = cc
-texts_rise (e ∷ es) texts rising i zero a b at_i at_j lt = absurd (omega arith)
-texts_rise (e ∷ es) texts rising zero (suc j) a b at_i at_j lt =
+texts_rise [] rising i j a b at_i at_j lt = cc
+texts_rise (e ∷ es) rising i zero a b at_i at_j lt = absurd (omega arith)
+texts_rise (e ∷ es) rising zero (suc j) a b at_i at_j lt =
     let same : e ≡ a = cc in
-    subst (λ (x : Named). order (text x) (text b) ≡ Less) same (head_below e es texts rising j b at_j)
-texts_rise (e ∷ es) texts rising (suc i) (suc j) a b at_i at_j lt =
-    texts_rise es (All-tail HasText e es texts) (tail_rises e es rising) i j a b at_i at_j (omega arith)
+    subst (λ (x : Named). order (text x) (text b) ≡ Less) same (head_below e es rising j b at_j)
+texts_rise (e ∷ es) rising (suc i) (suc j) a b at_i at_j lt =
+    texts_rise es (tail_rises e es rising) i j a b at_i at_j (omega arith)
 
 -- what lies before an entry that is below the text
 pub below-all : (es : List Named) → AreEntries es → (t : List ℕ) (m : ℕ) (e : Named) → slice_get es m ≡ Some e → order (text e) t ≡ Less
@@ -73,7 +66,7 @@ below-all es are t m e at_m less k f at_k lt = by (split k m lt)
     split k m lt = grind arith
 
     by : (k < m) ⊎ (k ≡ m) → order (text f) t ≡ Less
-    by (inl lt) = nat_list_cmp_total.trans (text f) (text e) t (texts_rise es are.texts are.rising k m f e at_k at_m lt) less
+    by (inl lt) = nat_list_cmp_total.trans (text f) (text e) t (texts_rise es are.rising k m f e at_k at_m lt) less
     by (inr same) =
         let at_same : slice_get es k ≡ Some e = ap (slice_get es) same ∙ at_m in
         let equal : e ≡ f = cc in
@@ -96,7 +89,7 @@ above-all es are t m e at_m greater k f at_k le = by (split m k le)
     by : (m < k) ⊎ (k ≡ m) → order (text f) t ≡ Greater
     by (inl lt) =
         let back : order t (text e) ≡ Less = nat_list_cmp_total.antisymm t (text e) ∙ reverse_Greater _ greater in
-        let next : order t (text f) ≡ Less = nat_list_cmp_total.trans t (text e) (text f) back (texts_rise es are.texts are.rising m k e f at_m at_k lt) in
+        let next : order t (text f) ≡ Less = nat_list_cmp_total.trans t (text e) (text f) back (texts_rise es are.rising m k e f at_m at_k lt) in
         nat_list_cmp_total.antisymm (text f) t ∙ reverse_Less _ next
     by (inr same) =
         let at_same : slice_get es k ≡ Some e = ap (slice_get es) same ∙ at_m in
@@ -145,7 +138,7 @@ pub found-is : (es : List Named) → AreEntries es → (t : List ℕ) (m : ℕ) 
 found-is es are t m e at_m equal =
     position_found (has_text t) es m
     (place_found (has_text t) es m e at_m (same-order e t ∙ ap is_eq equal)
-    (λ k f at_k lt. same-order f t ∙ ap is_eq (sym (alike_right nat_list_cmp_total (text e) t (text f) equal) ∙ texts_rise es are.texts are.rising k m f e at_k at_m lt)))
+    (λ k f at_k lt. same-order f t ∙ ap is_eq (sym (alike_right nat_list_cmp_total (text e) t (text f) equal) ∙ texts_rise es are.rising k m f e at_k at_m lt)))
     (slice_get_within es m e at_m)
 
 -- with every entry below the text or above it there is none
@@ -189,35 +182,33 @@ answer_past zones (e ∷ es) (suc n) le = answer_past zones es n (omega arith)
 one_add : (n : ℕ) → 1 + n ≡ suc n
 one_add n = omega arith
 
-find_from : (e : Named) (es : List Named) (t : List ℕ) (b : Bool)
-    → bytes_eq (name_text e.name) t ≡ b → has_text t e ≡ b
+find_from : (e : Named) (es : List Named) (t : List ℕ) (b : Bool) → has_text t e ≡ b
     → find (has_name t) (zones_of es) ≡ slice_get (zones_of es) (position_or_len (has_text t) es)
     → find (has_name t) (zones_of (e ∷ es)) ≡ slice_get (zones_of (e ∷ es)) (position_or_len (has_text t) (e ∷ es))
-find_from e es t true name here rest = rw (name, here)
-find_from e es t false name here rest = rw (name, here, one_add) rest
+find_from e es t true here rest = rw here
+find_from e es t false here rest = rw (here, one_add) rest
 
-find_entry : (es : List Named) (t : List ℕ) → All HasText es
+find_entry : (es : List Named) (t : List ℕ)
     → find (has_name t) (zones_of es) ≡ slice_get (zones_of es) (position_or_len (has_text t) es)
-find_entry [] t texts = refl
-find_entry (e ∷ es) t texts =
-    find_from e es t (has_text t e) (ap (λ x. bytes_eq x t) (sym (All-head HasText e es texts))) refl (find_entry es t (All-tail HasText e es texts))
+find_entry [] t = refl
+find_entry (e ∷ es) t = find_from e es t _ refl (find_entry es t)
 
-find_place : (zones : List NamedZone) (es : List Named) (t : List ℕ) → All HasText es
+find_place : (zones : List NamedZone) (es : List Named) (t : List ℕ)
     → resolved_in zones (find (has_name t) (zones_of es)) ≡ answer_at zones es (position_or_len (has_text t) es)
-find_place zones es t texts = ap (resolved_in zones) (find_entry es t texts)
+find_place zones es t = ap (resolved_in zones) (find_entry es t)
 
-found_entry : (es : List Named) (t : List ℕ) (n : ℕ) → All HasText es → position (has_text t) es ≡ Some n
+found_entry : (es : List Named) (t : List ℕ) (n : ℕ) → position (has_text t) es ≡ Some n
     → slice_get (zones_of es) n ≡ entry_named (zones_of es) t
-found_entry es t n texts found =
+found_entry es t n found =
     let same : position_or_len (has_text t) es ≡ n = grind (arith, nat_tests) in
-    sym (find_entry es t texts ∙ ap (slice_get (zones_of es)) same)
+    sym (find_entry es t ∙ ap (slice_get (zones_of es)) same)
 
-found_named : (es : List Named) (t : List ℕ) (n : ℕ) → All HasText es → position (has_text t) es ≡ Some n
+found_named : (es : List Named) (t : List ℕ) (n : ℕ) → position (has_text t) es ≡ Some n
     → answer_at (zones_of es) es n ≡ named (zones_of es) t
 unfolding named
-found_named es t n texts found =
+found_named es t n found =
     let same : position_or_len (has_text t) es ≡ n = grind (arith, nat_tests) in
-    sym (find_place (zones_of es) es t texts ∙ ap (answer_at (zones_of es) es) same)
+    sym (find_place (zones_of es) es t ∙ ap (answer_at (zones_of es) es) same)
 
 -- at the place of the text there is a zone, and it is that of the name
 pub zone-found : (es slice : List Named) (zones : List NamedZone) (t : List ℕ) (n : ℕ) → AreEntries es → slice ≡ es → zones_of es ≡ zones
@@ -226,21 +217,19 @@ pub zone-found : (es slice : List Named) (zones : List NamedZone) (t : List ℕ)
 zone-found es slice zones t n are same view found =
     let here : position (has_text t) es ≡ Some n = ap (position (has_text t)) (sym same) ∙ sym found in
     subst (λ (zs : List NamedZone). IsTrue (is_some (resolved_in zs (slice_get zs n))) × (resolved_in zs (slice_get zs n) ≡ named zs t)) view
-    (answer_found es t n are.resolved here, found_named es t n are.texts here)
+    (answer_found es t n are.resolved here, found_named es t n here)
 
 -- ---- the place by the names
 
-place_from : (e : Named) (es : List Named) (t : List ℕ) (b : Bool)
-    → bytes_eq (name_text e.name) t ≡ b → has_text t e ≡ b
+place_from : (e : Named) (es : List Named) (t : List ℕ) (b : Bool) → has_text t e ≡ b
     → position_or_len (has_name t) (zones_of es) ≡ position_or_len (has_text t) es
     → position_or_len (has_name t) (zones_of (e ∷ es)) ≡ position_or_len (has_text t) (e ∷ es)
-place_from e es t true name here rest = rw (name, here) refl
-place_from e es t false name here rest = rw (name, here, rest) refl
+place_from e es t true here rest = rw here refl
+place_from e es t false here rest = rw (here, rest) refl
 
-places_same : (es : List Named) (t : List ℕ) → All HasText es → position_or_len (has_name t) (zones_of es) ≡ position_or_len (has_text t) es
-places_same [] t texts = refl
-places_same (e ∷ es) t texts =
-    place_from e es t (has_text t e) (ap (λ x. bytes_eq x t) (sym (All-head HasText e es texts))) refl (places_same es t (All-tail HasText e es texts))
+places_same : (es : List Named) (t : List ℕ) → position_or_len (has_name t) (zones_of es) ≡ position_or_len (has_text t) es
+places_same [] t = refl
+places_same (e ∷ es) t = place_from e es t _ refl (places_same es t)
 
 -- the place of the text is that of the name
 pub place-found : (es slice : List Named) (zones : List NamedZone) (t : List ℕ) (n : ℕ) → AreEntries es → slice ≡ es → zones_of es ≡ zones
@@ -250,14 +239,14 @@ place-found es slice zones t n are same view found =
     let at : position_or_len (has_text t) es ≡ n = grind (arith, nat_tests) in
     let within : n < length es = grind (arith, nat_tests) in
     subst (λ (zs : List NamedZone). place_named zs t ≡ Some n) view
-    (position_found (has_name t) (zones_of es) n (places_same es t are.texts ∙ at) (omega (arith, length-map es named_of, within)))
+    (position_found (has_name t) (zones_of es) n (places_same es t ∙ at) (omega (arith, length-map es named_of, within)))
 
 -- and what stands there is the entry of that name
 pub entry-found : (es slice : List Named) (zones : List NamedZone) (t : List ℕ) (n : ℕ) → AreEntries es → slice ≡ es → zones_of es ≡ zones
     → Some n ≡ position (has_text t) slice → slice_get zones n ≡ entry_named zones t
 entry-found es slice zones t n are same view found =
     let here : position (has_text t) es ≡ Some n = ap (position (has_text t)) (sym same) ∙ sym found in
-    subst (λ (zs : List NamedZone). slice_get zs n ≡ entry_named zs t) view (found_entry es t n are.texts here)
+    subst (λ (zs : List NamedZone). slice_get zs n ≡ entry_named zs t) view (found_entry es t n here)
 
 -- and without a place there is none
 pub zone-missing : (es slice : List Named) (zones : List NamedZone) (t : List ℕ) → AreEntries es → slice ≡ es → zones_of es ≡ zones
@@ -266,7 +255,7 @@ unfolding named
 zone-missing es slice zones t are same view missing =
     let here : position (has_text t) es ≡ None = ap (position (has_text t)) (sym same) ∙ sym missing in
     let past : length es ≤ position_or_len (has_text t) es = grind (arith, nat_tests) in
-    ap (λ (zs : List NamedZone). named zs t) (sym view) ∙ find_place (zones_of es) es t are.texts ∙ answer_past (zones_of es) es _ past
+    ap (λ (zs : List NamedZone). named zs t) (sym view) ∙ find_place (zones_of es) es t ∙ answer_past (zones_of es) es _ past
 
 -- each place of the list has a zone, and only those have
 pub zone-within : (es : List Named) (zones : List NamedZone) (n : ℕ) → AreEntries es → zones_of es ≡ zones → n < length es → IsTrue (is_some (resolved_in zones (slice_get zones n)))

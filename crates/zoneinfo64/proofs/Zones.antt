@@ -1,7 +1,7 @@
 -- Zones with their names, as a loop reads them.
-use Rattle.std.proofs.Common.{◌≡◌, ℕ, ◌+◌, ◌≤◌, List, [], ◌∷◌, ◌++◌, length, drop, Option, Some, None, Err, refl, sym, ap, ◌∙◌, arith}
+use Rattle.std.proofs.Common.{◌≡◌, ℕ, ◌+◌, ◌≤◌, List, [], ◌∷◌, ◌++◌, length, drop, Option, Some, None, Err, refl, sym, ap, ◌∙◌, length-append, arith}
 use Rattle.std.specs.List.{slice_get}
-use Rattle.std.proofs.lemmas.List.{drop_all, append-nil}
+use Rattle.std.proofs.lemmas.List.{drop_all, append-nil, length-map}
 use Rattle.zoneinfo64.specs.declared.error.BinaryDeserializerError.{BinaryDeserializerError}
 use Rattle.zoneinfo64.specs.declared.error.BinaryDeserializerError.TheVariants as errors
 use Rattle.resb_tree.specs.Tree.{◌>>=◌}
@@ -10,17 +10,13 @@ use Rattle.zoneinfo64.specs.declared.zone.Named.{Named}
 use Rattle.timeline.specs.Zone.{RawRule}
 use Rattle.zoneinfo64.specs.NamedZone.{NamedZone}
 use Rattle.zoneinfo64.specs.Bundle.{named_zone, named_zones}
-use Rattle.zoneinfo64.specs.Inside.Steps.{Reads, with_front}
+use Rattle.zoneinfo64.specs.Inside.Steps.{Reads, with_front, with_next}
 use Rattle.zoneinfo64.specs.Inside.ZoneList.{named_of, zones_of}
 use Rattle.zoneinfo64.proofs.FieldParts.{drop_one}
 use Rattle.zoneinfo64.proofs.Fronts.{front_grows}
 
 abbrev Find : Type 0
 Find = List ℕ → Option RawRule
-
-zones_of-push : (entries : List Named) (e : Named) → zones_of (entries ++ e ∷ []) ≡ zones_of entries ++ named_of e ∷ []
-zones_of-push [] e = refl
-zones_of-push (d ∷ entries) e = rw (zones_of-push entries e) refl
 
 -- what a turn of the loop has before it: a zone, its name and its region, at one place of the three arrays
 pub record Turn (zones names regions : List Resource) (at : ℕ) (zone name region : Resource) : Type 0 where
@@ -38,30 +34,46 @@ turned find zones names regions at zone name region t =
     rw (drop_one zones at zone t.zone_there, drop_one names at name t.name_there, drop_one regions at region t.region_there) refl
 
 -- one more zone was read
-pub zone_read : (find : Find) (entries now : List Named) (e : Named) (zones names regions : List Resource) (at : ℕ) (zone name region : Resource) (total : Option (List NamedZone))
-    → Turn zones names regions at zone name region → named_zone find zone name region ≡ Some (named_of e) → now ≡ entries ++ e ∷ []
-    → with_front (zones_of entries) (left find zones names regions at) ≡ total → with_front (zones_of now) (left find zones names regions (at + 1)) ≡ total
-zone_read find entries now e zones names regions at zone name region total t read pushed so_far =
-    let others = left find zones names regions (at + 1) in
-    let once : with_front (zones_of entries) (left find zones names regions at) ≡ with_front (zones_of entries ++ named_of e ∷ []) others =
-    rw (turned find zones names regions at zone name region t, read) (front_grows (zones_of entries) (named_of e) others) in
-    rw (pushed, zones_of-push entries e) (sym once ∙ so_far)
+pub zone_read : (find : Find) (front now : List NamedZone) (zones names regions : List Resource) (at : ℕ) (zone name region : Resource) (total : Option (List NamedZone))
+    → Turn zones names regions at zone name region → with_next front (named_zone find zone name region) ≡ Some now
+    → with_front front (left find zones names regions at) ≡ total → with_front now (left find zones names regions (at + 1)) ≡ total
+zone_read find front now zones names regions at zone name region total t read so_far = by (named_zone find zone name region) refl read
+  where
+    others : Option (List NamedZone)
+    others = left find zones names regions (at + 1)
+
+    by : (o : Option NamedZone) → named_zone find zone name region ≡ o → with_next front o ≡ Some now → with_front now others ≡ total
+    by None e next = cc
+    by (Some z) e next =
+        let pushed : front ++ z ∷ [] ≡ now = cc in
+        let once : with_front front (left find zones names regions at) ≡ with_front (front ++ z ∷ []) others =
+        rw (turned find zones names regions at zone name region t, e) (front_grows front z others) in
+        rw (← pushed) (sym once ∙ so_far)
+
+-- and there is one more entry
+pub one_longer : (entries now : List Named) (read : Option NamedZone) → with_next (zones_of entries) read ≡ Some (zones_of now) → length now ≡ length entries + 1
+one_longer entries now None next = cc
+one_longer entries now (Some z) next =
+    let pushed : zones_of entries ++ z ∷ [] ≡ zones_of now = cc in
+    let long : length (zones_of entries ++ z ∷ []) ≡ length (zones_of now) = ap length pushed in
+    omega (arith, long, length-append (zones_of entries) (z ∷ []), length-map entries named_of, length-map now named_of)
 
 -- or a rule is broken, and there is no list
-zone_broken : (find : Find) (entries : List Named) (zones names regions : List Resource) (at : ℕ) (zone name region : Resource) (total : Option (List NamedZone))
-    → Turn zones names regions at zone name region → named_zone find zone name region ≡ None
-    → with_front (zones_of entries) (left find zones names regions at) ≡ total → total ≡ None
-zone_broken find entries zones names regions at zone name region total t broken so_far =
+zone_broken : (find : Find) (front : List NamedZone) (zones names regions : List Resource) (at : ℕ) (zone name region : Resource) (total : Option (List NamedZone))
+    → Turn zones names regions at zone name region → (o : Option NamedZone) → named_zone find zone name region ≡ o → with_next front o ≡ None
+    → with_front front (left find zones names regions at) ≡ total → total ≡ None
+zone_broken find front zones names regions at zone name region total t None broken next so_far =
     let none : left find zones names regions at ≡ None = rw (turned find zones names regions at zone name region t, broken) refl in
-    sym so_far ∙ ap (with_front (zones_of entries)) none
+    sym so_far ∙ ap (with_front front) none
+zone_broken find front zones names regions at zone name region total t (Some z) is next so_far = cc
 
-pub broken_list : {X Y : Type 0} (view : X → List NamedZone) (one : Y → NamedZone) (e : BinaryDeserializerError) (find : Find) (entries : List Named) (zones names regions : List Resource) (at : ℕ) (zone name region : Resource) (total : Option (List NamedZone))
-    → Turn zones names regions at zone name region → Reads one (Err e) (named_zone find zone name region)
-    → with_front (zones_of entries) (left find zones names regions at) ≡ total → Reads view (Err e) total
-broken_list view one errors.Memory find entries zones names regions at zone name region total t read so_far = tt
-broken_list view one errors.Rules find entries zones names regions at zone name region total t read so_far =
-    zone_broken find entries zones names regions at zone name region total t read so_far
-broken_list view one errors.Tree find entries zones names regions at zone name region total t read so_far = elim read [ ]
+pub broken_list : {X Y : Type 0} (view : X → List NamedZone) (one : Y → List NamedZone) (e : BinaryDeserializerError) (find : Find) (front : List NamedZone) (zones names regions : List Resource) (at : ℕ) (zone name region : Resource) (total : Option (List NamedZone))
+    → Turn zones names regions at zone name region → Reads one (Err e) (with_next front (named_zone find zone name region))
+    → with_front front (left find zones names regions at) ≡ total → Reads view (Err e) total
+broken_list view one errors.Memory find front zones names regions at zone name region total t read so_far = tt
+broken_list view one errors.Rules find front zones names regions at zone name region total t read so_far =
+    zone_broken find front zones names regions at zone name region total t _ refl read so_far
+broken_list view one errors.Tree find front zones names regions at zone name region total t read so_far = elim read [ ]
 
 -- all zones were read
 pub list_whole : (find : Find) (entries : List Named) (zones names regions : List Resource) (at : ℕ) (total : Option (List NamedZone)) → length zones ≤ at → length names ≡ length zones → length regions ≡ length zones

@@ -1,6 +1,7 @@
 -- What serves private contracts alone: no reader needs it to know what the crate does.
 pub mod DateWords
 pub mod RuleView
+pub mod Spellings
 pub mod Steps
 pub mod Verdicts
 pub mod ZoneList

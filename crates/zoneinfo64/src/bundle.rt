@@ -1,50 +1,59 @@
 //! The zones of a bundle.
-ghost use Rattle.std.specs.Prelude.{◌≡◌, length, All, IfOk, is_some};
+ghost use Rattle.std.specs.Prelude.{◌≡◌, ◌<◌, ◌++◌, ◌∷◌, [], length, IfOk, is_some, vec_len, vec_capacity};
 ghost use Rattle.zoneinfo64.specs.NamedZone.{zone_at};
 ghost use Rattle.resb_tree.specs.Header.{tree_of};
 ghost use Rattle.zoneinfo64.specs.Bundle.{rises, is_resolved, all_resolved, place_of, named_zone, named_zones, array_in, table_in, are_arrays, checked_zones, zone_list, zones_of_words};
-ghost use Rattle.zoneinfo64.specs.Inside.Steps.{Reads, is_before};
+ghost use Rattle.zoneinfo64.specs.Inside.Steps.{Reads, with_next, is_before};
 ghost use Rattle.zoneinfo64.specs.Inside.RuleView.{rule_for};
-ghost use Rattle.zoneinfo64.specs.Inside.ZoneList.{zones_of, named_of, place_of_item, HasText, AreEntries};
+ghost use Rattle.zoneinfo64.specs.Inside.ZoneList.{zones_of, named_of, place_of_item, AreEntries};
 
 use crate::error::BinaryDeserializerError;
 use crate::fields::{region_of, zone_data};
+use crate::region::Region;
 use crate::rules::{Rules, rules};
 use crate::utf16::PotentialUtf16;
 use crate::zone::{Item, Named, ZoneInfo64};
-use resb_tree::{Bundle, EntriesRef, ItemsRef, ResbError, ResourceRef};
-use std::alloc::Global;
+use resb_tree::{Bundle, EntriesRef, ItemsRef, ResbError, ResourceRef, TextRef};
+use std::alloc::{AllocError, Global};
 
-/// A zone, or the place of one.
-#[tactic(auto, unfolding(crate::specs::Bundle::place_of))]
-fn item(
+/// Appends an entry of a name.
+fn push_entry(
     alloc: Global,
-    rules: &Rules,
-    zone: &ResourceRef<'_>,
-) -> Result<Item, BinaryDeserializerError>
-    ensures { Reads place_of_item result (place_of (rule_for rules.now) zone.now) }
+    name: &TextRef<'_>,
+    region: Region,
+    item: Item,
+    entries: &mut Vec<Named>,
+) -> Result<(), AllocError>
+    requires { vec_len entries.old < vec_capacity entries.old }
+    ensures zones { IfOk result (λ u. zones_of entries.new.items ≡ zones_of entries.old.items
+        ++ record { name = name.now; region = region; place = place_of_item item } ∷ []) }
+    ensures room { IfOk result (λ u. vec_capacity entries.new ≡ vec_capacity entries.old) }
 {
-    match zone.index() {
-        Some(place) => Ok(Item::Alias(place)),
-        None => {
-            let data = zone_data(alloc, rules, zone)?;
-            Ok(Item::Zone(data))
+    match PotentialUtf16::from_text(alloc, name) {
+        Ok(name) => {
+            entries.push_reserved(Named { name, region, item });
+            Ok(())
         }
+        Err(error) => Err(error),
     }
 }
 
-/// One zone with its name and region. The units of the name are copied.
-#[tactic(auto, unfolding(crate::specs::Bundle::named_zone))]
-fn named(
+/// Appends one zone with its name and region. An alias goes a way of its own, so that no room for a
+/// zone is moved for it.
+#[tactic(auto, unfolding(crate::specs::Bundle::named_zone, crate::specs::Bundle::place_of))]
+fn push_named(
     alloc: Global,
     rules: &Rules,
     zone: &ResourceRef<'_>,
     name: &ResourceRef<'_>,
     region: &ResourceRef<'_>,
-) -> Result<Named, BinaryDeserializerError>
-    ensures zone { Reads named_of result
-        (named_zone (rule_for rules.now) zone.now name.now region.now) }
-    ensures text { IfOk result HasText }
+    entries: &mut Vec<Named>,
+) -> Result<(), BinaryDeserializerError>
+    requires { vec_len entries.old < vec_capacity entries.old }
+    ensures zones { Reads (λ u. zones_of entries.new.items) result
+        (with_next (zones_of entries.old.items)
+        (named_zone (rule_for rules.now) zone.now name.now region.now)) }
+    ensures room { IfOk result (λ u. vec_capacity entries.new ≡ vec_capacity entries.old) }
 {
     let Some(name) = name.text() else {
         return Err(BinaryDeserializerError::Rules);
@@ -55,15 +64,17 @@ fn named(
     let Some(region) = region_of(&region_units) else {
         return Err(BinaryDeserializerError::Rules);
     };
-    let item = item(alloc, rules, zone)?;
-    let units = name.to_items(alloc)?;
-    let text = String::from_utf16_lossy(alloc, units.as_slice())?;
-    Ok(Named {
-        name: PotentialUtf16::from_units(units),
-        text,
-        region,
-        item,
-    })
+    if let Some(place) = zone.index() {
+        push_entry(alloc, &name, region, Item::Alias(place), entries)?;
+        return Ok(());
+    }
+    match zone_data(alloc, rules, zone) {
+        Ok(data) => {
+            push_entry(alloc, &name, region, Item::Zone(data), entries)?;
+            Ok(())
+        }
+        Err(error) => Err(error),
+    }
 }
 
 /// The zones of three arrays, read side by side.
@@ -76,33 +87,28 @@ fn named_zones(
 ) -> Result<Vec<Named>, BinaryDeserializerError>
     requires names { length names.now ≡ length zones.now }
     requires regions { length regions.now ≡ length zones.now }
-    ensures zones { Reads (λ v. zones_of v.items) result
+    ensures { Reads (λ v. zones_of v.items) result
         (named_zones (rule_for rules.now) zones.now names.now regions.now) }
-    ensures texts { IfOk result (λ v. All HasText v.items) }
 {
     let mut entries = Vec::with_capacity(alloc, zones.len())?;
     for at in 0..zones.len() {
         let zone = zones.at(at);
         let name = names.at(at);
         let region = regions.at(at);
-        let entry = named(alloc, rules, &zone, &name, &region)?;
-        entries.push(entry)?;
+        push_named(alloc, rules, &zone, &name, &region, &mut entries)?;
     }
     Ok(entries)
 }
 
 /// Whether a name comes before another, character by character.
 fn is_before(first: &Named, second: &Named) -> bool
-    requires first { HasText first.now }
-    requires second { HasText second.now }
     ensures { result ≡ is_before (named_of first.now) (named_of second.now) }
 {
-    first.text.as_str() < second.text.as_str()
+    first.name.text().cmp(second.name.text()).is_lt()
 }
 
 /// Whether the names strictly rise.
 fn rises(entries: &[Named]) -> bool
-    requires { All HasText entries.now }
     ensures { result ≡ rises (zones_of entries.now) }
 {
     for at in 1..entries.len() {

@@ -214,7 +214,7 @@ fn seconds(
     Ok(Seconds::new(list, wide_len(early), wide_len(late)))
 }
 
-/// The largest number, 0 where there is none. The loop has no exit, so that it takes many numbers at once.
+/// The largest number, 0 where there is none. The loop has no exit, so that it takes many at once.
 fn largest(numbers: &[u8]) -> u8
     ensures bound { All (λ n. n ≤ result) numbers.now }
     ensures least { (len : ℕ) → 0 < len → All (λ n. n < len) numbers.now → result < len }

@@ -8,6 +8,7 @@ ghost use Rattle.zoneinfo64.specs.Inside.RuleView.{rule_for};
 
 use crate::error::BinaryDeserializerError;
 use crate::rule_words::dates;
+use crate::utf16::PotentialUtf16;
 use resb_tree::{EntriesRef, KeyRef, ResourceRef, TextRef};
 use std::alloc::{AllocError, Global};
 use std::collections::BTreeMap;
@@ -58,7 +59,7 @@ pub fn rules(alloc: Global, entries: &EntriesRef<'_>) -> Result<Rules, BinaryDes
     Ok(rules)
 }
 
-/// The rule whose key is a text. The text's units are copied to be looked up.
+/// The rule whose key is a text. The text's units are copied to be looked up, and a short text's take no memory.
 pub fn rule_by_text<'r>(
     alloc: Global,
     rules: &'r Rules,
@@ -66,6 +67,6 @@ pub fn rule_by_text<'r>(
 ) -> Result<Option<&'r PlacedDates>, AllocError>
     ensures { IfOk result (λ found. option_copied found ≡ rule_for rules.now text.now) }
 {
-    let units = text.to_items(alloc)?;
-    Ok(rules.get(units.as_slice()))
+    let name = PotentialUtf16::from_text(alloc, text)?;
+    Ok(rules.get(name.units()))
 }

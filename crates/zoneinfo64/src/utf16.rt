@@ -1,17 +1,35 @@
 //! UTF-16 that may have surrogates without a partner.
-ghost use Rattle.std.specs.Prelude.{◌≡◌, ◌&&◌, ◌∷◌, [], Some, None, IfSome, IfNone, if◌then◌else◌};
+ghost use Rattle.std.specs.Prelude.{IsTrue, IfOk, take, length, ◌≤◌, ◌≡◌, ◌&&◌, ◌∷◌, [], Some, None, IfSome, IfNone, if◌then◌else◌};
 ghost use Rattle.std.specs.Option.{unwrap_or};
 ghost use Rattle.std.specs.Char.Utf16.{utf16_lossy_chars, lone_unit_char, is_high_surrogate, is_low_surrogate, surrogate_pair_char};
 ghost use Rattle.std.specs.Iterator.{YieldsFirst, item_count};
 ghost use Rattle.zoneinfo64.specs.Utf16View.{chars_in};
+ghost use Rattle.zoneinfo64.specs.Inside.Spellings.{units_of, IsSpelling};
+ghost use Rattle.zoneinfo64.specs.NamedZone.{name_text};
 
+use resb_tree::TextRef;
 use sqlite_items::Items;
+use std::alloc::{AllocError, Global};
 use std::marker::Model;
+
+/// How a name is kept, as units and in UTF-8. A short one in ASCII, as most are, takes no memory of its own.
+#[derive(Drop)]
+enum Spelling {
+    Short {
+        units: [u16; 32],
+        bytes: [u8; 32],
+        len: usize,
+    },
+    Long {
+        units: Items<u16>,
+        text: String,
+    },
+}
 
 /// A name in UTF-16, in which a surrogate may stand without its partner.
 #[derive(Drop)]
 pub struct PotentialUtf16 {
-    units: Items<u16>,
+    spelling: Spelling,
 }
 
 impl Model for PotentialUtf16 {
@@ -19,22 +37,83 @@ impl Model for PotentialUtf16 {
 
     ghost Value = { List ℕ };
 
-    ghost view = { λ a. a.units };
+    ghost use Rattle.zoneinfo64.specs.Inside.Spellings.{units_of, IsSpelling};
+
+    ghost view = { λ a. units_of a.spelling };
+
+    ghost invariant = { λ a. IsSpelling a.spelling };
+}
+
+/// Copies a text of at most 32 units in ASCII, as units and as bytes; whether it is one.
+fn copy_short(text: &TextRef<'_>, units: &mut [u16; 32], bytes: &mut [u8; 32]) -> bool
+    ensures units { IsTrue result → take (length text.now) units.new ≡ text.now }
+    ensures bytes { IsTrue result → take (length text.now) bytes.new ≡ name_text text.now }
+    ensures short { IsTrue result → length text.now ≤ 32 }
+{
+    let len = text.len();
+    if len > 32 {
+        return false;
+    }
+    for at in 0..len {
+        let Some(unit) = text.get(at) else {
+            return false;
+        };
+        if unit >= 128 {
+            return false;
+        }
+        units[at] = unit;
+        bytes[at] = unit as u8;
+    }
+    true
 }
 
 impl PotentialUtf16 {
-    /// A name of these units.
-    pub(crate) fn from_units(units: Items<u16>) -> PotentialUtf16
-        ensures { result ≡ units }
+    ghost use Rattle.zoneinfo64.specs.NamedZone.{name_text};
+
+    /// A name of the units of a text.
+    pub(crate) fn from_text(alloc: Global, text: &TextRef<'_>) -> Result<PotentialUtf16, AllocError>
+        ensures { IfOk result (λ name. name ≡ text.now) }
     {
-        PotentialUtf16 { units }
+        let mut units = [0; 32];
+        let mut bytes = [0; 32];
+        if copy_short(text, &mut units, &mut bytes) {
+            let len = text.len();
+            return Ok(PotentialUtf16 {
+                spelling: Spelling::Short { units, bytes, len },
+            });
+        }
+        let units = text.to_items(alloc)?;
+        PotentialUtf16::from_units(alloc, units)
+    }
+
+    /// A name of these units.
+    pub(crate) fn from_units(alloc: Global, units: Items<u16>) -> Result<PotentialUtf16, AllocError>
+        ensures { IfOk result (λ name. name ≡ units) }
+    {
+        let text = String::from_utf16_lossy(alloc, units.as_slice())?;
+        Ok(PotentialUtf16 {
+            spelling: Spelling::Long { units, text },
+        })
     }
 
     /// Its units.
     pub fn units(&self) -> &[u16]
         ensures { result.now ≡ self.now }
     {
-        self.units.as_slice()
+        match &self.spelling {
+            Spelling::Short { units, len, .. } => &units[..*len],
+            Spelling::Long { units, .. } => units.as_slice(),
+        }
+    }
+
+    /// Its characters in UTF-8.
+    pub(crate) fn text(&self) -> &[u8]
+        ensures { result.now ≡ name_text self.now }
+    {
+        match &self.spelling {
+            Spelling::Short { bytes, len, .. } => &bytes[..*len],
+            Spelling::Long { text, .. } => text.as_bytes(),
+        }
     }
 
     /// Its characters; U+FFFD stands for each surrogate without a partner.
@@ -42,7 +121,7 @@ impl PotentialUtf16 {
         ensures { chars_in result ≡ utf16_lossy_chars self.now }
     {
         Utf16Chars {
-            units: self.units.as_slice(),
+            units: self.units(),
         }
     }
 }

@@ -17,11 +17,10 @@ pub enum Item {
     Alias(u32),
 }
 
-/// A zone with its name, as units and as text, and its region.
+/// A zone with its name and its region.
 #[derive(Drop)]
 pub struct Named {
     pub name: PotentialUtf16,
-    pub text: String,
     pub region: Region,
     pub item: Item,
 }
@@ -127,7 +126,7 @@ impl ZoneInfo64 {
 
 ghost use Rattle.std.specs.Prelude.{position};
 ghost use Rattle.std.specs.Str.{bytes_eq};
-ghost use Rattle.std.specs.String.{string_bytes};
+ghost use Rattle.zoneinfo64.specs.NamedZone.{name_text};
 ghost use Rattle.zoneinfo64.specs.Inside.ZoneList.{AreEntries};
 ghost use Rattle.zoneinfo64.specs.declared.zone.Named.{Named};
 
@@ -136,13 +135,13 @@ ghost use Rattle.zoneinfo64.specs.declared.zone.Named.{Named};
 fn place_of(entries: &[Named], iana: &str, near: usize) -> Option<usize>
     requires { AreEntries entries.now }
     ensures { result
-        ≡ position (λ (e : Named). bytes_eq (string_bytes e.text) iana.now) entries.now }
+        ≡ position (λ (e : Named). bytes_eq (name_text e.name) iana.now) entries.now }
 {
     let mut low = 0;
     let mut high = entries.len();
     let mut middle = if near < high { near } else { high / 2 };
     while low < high {
-        match entries[middle].text.as_str().cmp(iana) {
+        match entries[middle].name.text().cmp(iana.as_bytes()) {
             Ordering::Less => {
                 low = middle + 1;
                 middle = low + (high - low) / 2;

@@ -50,6 +50,11 @@ abbrev pub with_front : {A : Type 0} → List A → Option (List A) → Option (
 with_front front None = None
 with_front front (Some xs) = Some (front ++ xs)
 
+-- what was read before, and what is read next
+abbrev pub with_next : {A : Type 0} → List A → Option A → Option (List A)
+with_next front None = None
+with_next front (Some x) = Some (front ++ x ∷ [])
+
 -- a second in two words, the high one first
 abbrev pub wide_second : ℕ → ℕ → ℤ
 wide_second a b = as_i32 a *ℤ pos 4294967296 +ℤ pos b

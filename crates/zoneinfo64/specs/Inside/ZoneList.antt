@@ -1,12 +1,11 @@
 -- The zone list that a `ZoneInfo64` keeps.
-use Rattle.std.specs.Prelude.{◌≡◌, ◌≤◌, ◌<◌, List, map, length, All, IsTrue, Option, Some, None}
+use Rattle.std.specs.Prelude.{◌≤◌, ◌<◌, List, map, length, IsTrue, Option, Some, None}
 use Rattle.std.specs.Borrow.{Bor}
-use Rattle.std.specs.String.{string_bytes}
 use Rattle.zoneinfo64.specs.declared.zone.Named.{Named}
 use Rattle.zoneinfo64.specs.declared.zone.Item.{Item}
 use Rattle.zoneinfo64.specs.declared.zone.Item.TheVariants as item
 use Rattle.timeline.specs.Zone.{PlainZone}
-use Rattle.zoneinfo64.specs.NamedZone.{NamedZone, Place, IsZone, IsAlias, name_text}
+use Rattle.zoneinfo64.specs.NamedZone.{NamedZone, Place, IsZone, IsAlias}
 use Rattle.zoneinfo64.specs.Bundle.{rises, all_resolved}
 
 -- the plain zone of data that was lent, if any was
@@ -27,14 +26,9 @@ named_of n = record { name = n.name; region = n.region; place = place_of_item n.
 abbrev pub zones_of : List Named → List NamedZone
 zones_of entries = map named_of entries
 
--- the text beside a name is that of its units
-abbrev pub HasText : Named → Type 0
-HasText n = string_bytes n.text ≡ name_text n.name
-
 -- entries that make a list: at least one, not too many, with rising names, and each alias is the place of a zone
 pub record AreEntries (entries : List Named) : Type 0 where
   pub some : 0 < length entries
   pub few : length entries ≤ 65536
-  pub texts : All HasText entries
   pub rising : IsTrue (rises (zones_of entries))
   pub resolved : IsTrue (all_resolved (zones_of entries) (zones_of entries))

@@ -288,7 +288,7 @@ fn characters_of_units(rt: HostRuntime) -> Result<(), Fail> {
         (&[0xD83D, 0xD83D, 0xDE00], "\u{FFFD}\u{1F600}"),
     ];
     for (units, spelled) in rows {
-        let name = PotentialUtf16::from_units(Items::from_slice(alloc, units)?);
+        let name = PotentialUtf16::from_units(alloc, Items::from_slice(alloc, units)?)?;
         assert_eq!(rt; name.units(), units);
         assert!(rt; name.chars().eq(spelled.chars()), "{spelled}");
     }

@@ -1,4 +1,4 @@
-use Rattle.std.proofs.Common.{◌≡◌, ℕ, ◌<◌, ◌≤◌, All, get_or}
+use Rattle.std.proofs.Common.{ℕ, ◌<◌, ◌≤◌, All, get_or}
 use Rattle.zoneinfo64.proofs.fields.largest.Given as goal
 
 -- none so far is larger, and a length that all are below is above it

@@ -3,7 +3,7 @@ use Rattle.std.specs.List.{slice_get}
 use Rattle.std.specs.Ordering.{nat_cmp}
 use Rattle.std.specs.declared.cmp.Ordering.TheVariants.{Less, Equal, Greater}
 use Rattle.std.specs.Cmp.Lexicographic.{slice_cmp}
-use Rattle.std.specs.String.{string_bytes}
+use Rattle.zoneinfo64.specs.NamedZone.{name_text}
 use Rattle.std.proofs.lemmas.Option.{slice_get_read}
 use Rattle.zoneinfo64.specs.declared.zone.Named.{Named}
 use Rattle.zoneinfo64.proofs.Names.{below-all, above-all, found-is, missing-is}
@@ -14,8 +14,8 @@ loop-low-preserved-in-Less c =
     let middle = c.loop-low.middle in
     let e = c.index-entries-middle.result in
     let at : slice_get c.args.entries.now middle ≡ Some e = slice_get_read c.args.entries.now _ middle e refl (omega arith) c.index-entries-middle.is in
-    let text : c.as_str.result.now ≡ string_bytes e.text = c.as_str.ensures.value ∙ ap (λ (x : Named). string_bytes x.text) (sym c.index-entries-middle.is) in
-    let less : slice_cmp nat_cmp (string_bytes e.text) c.args.iana.now ≡ Less = sym (c.in-Less.ensures ∙ ap (λ t. slice_cmp nat_cmp t c.args.iana.now) text) in
+    let text : c.text.result.now ≡ name_text e.name = c.text.ensures ∙ ap (λ (x : Named). name_text x.name) (sym c.index-entries-middle.is) in
+    let less : slice_cmp nat_cmp (name_text e.name) c.args.iana.now ≡ Less = sym (c.in-Less.ensures ∙ ap (λ t. slice_cmp nat_cmp c.text.result.now t) c.as_bytes.ensures.value ∙ ap (λ t. slice_cmp nat_cmp t c.args.iana.now) text) in
     record {
       within = c.loop-low.invariant.within;
       from = λ h. omega arith;
@@ -29,8 +29,8 @@ returns-in-Equal c =
     let middle = c.loop-low.middle in
     let e = c.index-entries-middle.result in
     let at : slice_get c.args.entries.now middle ≡ Some e = slice_get_read c.args.entries.now _ middle e refl (omega arith) c.index-entries-middle.is in
-    let text : c.as_str.result.now ≡ string_bytes e.text = c.as_str.ensures.value ∙ ap (λ (x : Named). string_bytes x.text) (sym c.index-entries-middle.is) in
-    let equal : slice_cmp nat_cmp (string_bytes e.text) c.args.iana.now ≡ Equal = sym (c.in-Equal.ensures ∙ ap (λ t. slice_cmp nat_cmp t c.args.iana.now) text) in
+    let text : c.text.result.now ≡ name_text e.name = c.text.ensures ∙ ap (λ (x : Named). name_text x.name) (sym c.index-entries-middle.is) in
+    let equal : slice_cmp nat_cmp (name_text e.name) c.args.iana.now ≡ Equal = sym (c.in-Equal.ensures ∙ ap (λ t. slice_cmp nat_cmp c.text.result.now t) c.as_bytes.ensures.value ∙ ap (λ t. slice_cmp nat_cmp t c.args.iana.now) text) in
     sym (found-is _ c.requires _ middle e at equal)
 
 pub loop-low-preserved : goal.loop-low-preserved
@@ -38,8 +38,8 @@ loop-low-preserved c =
     let middle = c.loop-low.middle in
     let e = c.index-entries-middle.result in
     let at : slice_get c.args.entries.now middle ≡ Some e = slice_get_read c.args.entries.now _ middle e refl (omega arith) c.index-entries-middle.is in
-    let text : c.as_str.result.now ≡ string_bytes e.text = c.as_str.ensures.value ∙ ap (λ (x : Named). string_bytes x.text) (sym c.index-entries-middle.is) in
-    let greater : slice_cmp nat_cmp (string_bytes e.text) c.args.iana.now ≡ Greater = sym (c.in-Greater.ensures ∙ ap (λ t. slice_cmp nat_cmp t c.args.iana.now) text) in
+    let text : c.text.result.now ≡ name_text e.name = c.text.ensures ∙ ap (λ (x : Named). name_text x.name) (sym c.index-entries-middle.is) in
+    let greater : slice_cmp nat_cmp (name_text e.name) c.args.iana.now ≡ Greater = sym (c.in-Greater.ensures ∙ ap (λ t. slice_cmp nat_cmp c.text.result.now t) c.as_bytes.ensures.value ∙ ap (λ t. slice_cmp nat_cmp t c.args.iana.now) text) in
     record {
       within = omega arith;
       from = λ h. omega arith;

@@ -3,7 +3,7 @@ use Rattle.std.specs.List.{slice_get}
 use Rattle.std.specs.Ordering.{nat_cmp}
 use Rattle.std.specs.declared.cmp.Ordering.TheVariants.{Less, Greater}
 use Rattle.std.specs.Cmp.Lexicographic.{slice_cmp}
-use Rattle.std.specs.String.{string_bytes}
+use Rattle.zoneinfo64.specs.NamedZone.{name_text}
 use Rattle.zoneinfo64.specs.declared.zone.Named.{Named}
 use Rattle.zoneinfo64.proofs.zone.place_of.Given as goal
 
@@ -12,8 +12,8 @@ invariant-loop-low l = record {
   within : l.high ≤ length l.entries;
   from : l.low < l.high → l.low ≤ l.middle;
   before : l.low < l.high → l.middle < l.high;
-  below : (k : ℕ) (e : Named) → slice_get l.entries k ≡ Some e → k < l.low → slice_cmp nat_cmp (string_bytes e.text) l.iana ≡ Less;
-  above : (k : ℕ) (e : Named) → slice_get l.entries k ≡ Some e → l.high ≤ k → slice_cmp nat_cmp (string_bytes e.text) l.iana ≡ Greater;
+  below : (k : ℕ) (e : Named) → slice_get l.entries k ≡ Some e → k < l.low → slice_cmp nat_cmp (name_text e.name) l.iana ≡ Less;
+  above : (k : ℕ) (e : Named) → slice_get l.entries k ≡ Some e → l.high ≤ k → slice_cmp nat_cmp (name_text e.name) l.iana ≡ Greater;
 }
 
 abbrev pub decreases-loop-low : goal.decreases-loop-low
