@@ -6,6 +6,8 @@ use Rattle.std.proofs.lemmas.Bool.Decides.{nat_tests}
 use Rattle.std.proofs.lemmas.List.{take_all}
 use Rattle.std.proofs.lemmas.List.Elements.{All-head, All-tail}
 use Rattle.std.proofs.lemmas.Str.{encode_ascii}
+use Rattle.std.proofs.lemmas.Str.Ascii.{IsAscii-from_all}
+use Rattle.std.specs.Str.{IsAscii}
 use Rattle.zoneinfo64.specs.NamedZone.{name_text}
 
 no_pair : (u v : ℕ) → u < 128 → (is_high_surrogate u && is_low_surrogate v) ≡ false
@@ -30,3 +32,9 @@ pub copied-whole : (units copy : List ℕ) (n : ℕ) → n ≡ length units → 
 copied-whole units copy n is same low =
     let whole : take n units ≡ units = take_all n units (omega arith) in
     ap (λ m. take m copy) (sym is) ∙ same ∙ whole ∙ sym (name_text-ascii units (subst (λ us. All (λ u. u < 128) us) whole low))
+
+-- and in ASCII
+pub copied-ascii : (units copy : List ℕ) (n : ℕ) → n ≡ length units → take n copy ≡ take n units → All (λ u. u < 128) (take n units)
+    → IsAscii (take (length units) copy)
+copied-ascii units copy n is same low =
+    IsAscii-from_all (take (length units) copy) (subst (λ us. All (λ u. u < 128) us) (sym same ∙ ap (λ m. take m copy) is) low)

@@ -4,13 +4,14 @@ ghost use Rattle.std.specs.Option.{unwrap_or};
 ghost use Rattle.std.specs.Char.Utf16.{utf16_lossy_chars, lone_unit_char, is_high_surrogate, is_low_surrogate, surrogate_pair_char};
 ghost use Rattle.std.specs.Iterator.{YieldsFirst, item_count};
 ghost use Rattle.zoneinfo64.specs.Utf16View.{chars_in};
-ghost use Rattle.zoneinfo64.specs.Inside.Spellings.{units_of, IsSpelling};
+ghost use Rattle.std.specs.Str.{IsAscii};
 ghost use Rattle.zoneinfo64.specs.NamedZone.{name_text};
 
 use resb_tree::TextRef;
 use sqlite_items::Items;
 use std::alloc::{AllocError, Global};
 use std::marker::Model;
+use std::str::from_utf8_unchecked;
 
 /// How a name is kept, as units and in UTF-8. A short one in ASCII, as most are, takes no memory of its own.
 #[derive(Drop)]
@@ -48,6 +49,7 @@ impl Model for PotentialUtf16 {
 fn copy_short(text: &TextRef<'_>, units: &mut [u16; 32], bytes: &mut [u8; 32]) -> bool
     ensures units { IsTrue result → take (length text.now) units.new ≡ text.now }
     ensures bytes { IsTrue result → take (length text.now) bytes.new ≡ name_text text.now }
+    ensures ascii { IsTrue result → IsAscii (take (length text.now) bytes.new) }
     ensures short { IsTrue result → length text.now ≤ 32 }
 {
     let len = text.len();
@@ -107,12 +109,12 @@ impl PotentialUtf16 {
     }
 
     /// Its characters in UTF-8.
-    pub(crate) fn text(&self) -> &[u8]
+    pub(crate) fn text(&self) -> &str
         ensures { result.now ≡ name_text self.now }
     {
         match &self.spelling {
-            Spelling::Short { bytes, len, .. } => &bytes[..*len],
-            Spelling::Long { text, .. } => text.as_bytes(),
+            Spelling::Short { bytes, len, .. } => unsafe { from_utf8_unchecked(&bytes[..*len]) },
+            Spelling::Long { text, .. } => text.as_str(),
         }
     }
 

@@ -141,7 +141,7 @@ fn place_of(entries: &[Named], iana: &str, near: usize) -> Option<usize>
     let mut high = entries.len();
     let mut middle = if near < high { near } else { high / 2 };
     while low < high {
-        match entries[middle].name.text().cmp(iana.as_bytes()) {
+        match entries[middle].name.text().cmp(iana) {
             Ordering::Less => {
                 low = middle + 1;
                 middle = low + (high - low) / 2;

@@ -1,5 +1,6 @@
 -- How a name is kept.
 use Rattle.std.specs.Prelude.{◌≡◌, ◌≤◌, ℕ, List, take}
+use Rattle.std.specs.Str.{IsAscii}
 use Rattle.std.specs.String.{string_bytes}
 use Rattle.zoneinfo64.specs.declared.utf16.Spelling.{Spelling}
 use Rattle.zoneinfo64.specs.declared.utf16.Spelling.TheVariants as spelling
@@ -13,6 +14,7 @@ units_of (spelling.Long units text) = units
 -- a short name has its units and its bytes, 32 at most
 pub record IsShort (units bytes : List ℕ) (len : ℕ) : Type 0 where
   pub room : len ≤ 32
+  pub ascii : IsAscii (take len bytes)
   pub same : take len bytes ≡ name_text (take len units)
 
 -- what is kept in UTF-8 is the characters of the units

@@ -45,7 +45,7 @@ fn reads_one_zone(rt: HostRuntime) -> Result<(), Fail> {
     let entries = read_tree(alloc, root)?;
     assert_eq!(rt; entries.len(), 1);
     let entry = &entries[0];
-    assert_eq!(rt; entry.name.text(), b"Test/Plus2".as_slice());
+    assert_eq!(rt; entry.name.text(), "Test/Plus2");
     assert_eq!(rt; entry.name.units().len(), 10);
     assert_eq!(rt; entry.region.raw(), *b"001");
     let zone = data(entry).expect(&rt, "a zone");

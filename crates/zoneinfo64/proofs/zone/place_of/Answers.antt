@@ -15,7 +15,7 @@ loop-low-preserved-in-Less c =
     let e = c.index-entries-middle.result in
     let at : slice_get c.args.entries.now middle ≡ Some e = slice_get_read c.args.entries.now _ middle e refl (omega arith) c.index-entries-middle.is in
     let text : c.text.result.now ≡ name_text e.name = c.text.ensures ∙ ap (λ (x : Named). name_text x.name) (sym c.index-entries-middle.is) in
-    let less : slice_cmp nat_cmp (name_text e.name) c.args.iana.now ≡ Less = sym (c.in-Less.ensures ∙ ap (λ t. slice_cmp nat_cmp c.text.result.now t) c.as_bytes.ensures.value ∙ ap (λ t. slice_cmp nat_cmp t c.args.iana.now) text) in
+    let less : slice_cmp nat_cmp (name_text e.name) c.args.iana.now ≡ Less = sym (c.in-Less.ensures ∙ ap (λ t. slice_cmp nat_cmp t c.args.iana.now) text) in
     record {
       within = c.loop-low.invariant.within;
       from = λ h. omega arith;
@@ -30,7 +30,7 @@ returns-in-Equal c =
     let e = c.index-entries-middle.result in
     let at : slice_get c.args.entries.now middle ≡ Some e = slice_get_read c.args.entries.now _ middle e refl (omega arith) c.index-entries-middle.is in
     let text : c.text.result.now ≡ name_text e.name = c.text.ensures ∙ ap (λ (x : Named). name_text x.name) (sym c.index-entries-middle.is) in
-    let equal : slice_cmp nat_cmp (name_text e.name) c.args.iana.now ≡ Equal = sym (c.in-Equal.ensures ∙ ap (λ t. slice_cmp nat_cmp c.text.result.now t) c.as_bytes.ensures.value ∙ ap (λ t. slice_cmp nat_cmp t c.args.iana.now) text) in
+    let equal : slice_cmp nat_cmp (name_text e.name) c.args.iana.now ≡ Equal = sym (c.in-Equal.ensures ∙ ap (λ t. slice_cmp nat_cmp t c.args.iana.now) text) in
     sym (found-is _ c.requires _ middle e at equal)
 
 pub loop-low-preserved : goal.loop-low-preserved
@@ -39,7 +39,7 @@ loop-low-preserved c =
     let e = c.index-entries-middle.result in
     let at : slice_get c.args.entries.now middle ≡ Some e = slice_get_read c.args.entries.now _ middle e refl (omega arith) c.index-entries-middle.is in
     let text : c.text.result.now ≡ name_text e.name = c.text.ensures ∙ ap (λ (x : Named). name_text x.name) (sym c.index-entries-middle.is) in
-    let greater : slice_cmp nat_cmp (name_text e.name) c.args.iana.now ≡ Greater = sym (c.in-Greater.ensures ∙ ap (λ t. slice_cmp nat_cmp c.text.result.now t) c.as_bytes.ensures.value ∙ ap (λ t. slice_cmp nat_cmp t c.args.iana.now) text) in
+    let greater : slice_cmp nat_cmp (name_text e.name) c.args.iana.now ≡ Greater = sym (c.in-Greater.ensures ∙ ap (λ t. slice_cmp nat_cmp t c.args.iana.now) text) in
     record {
       within = omega arith;
       from = λ h. omega arith;
