@@ -2,7 +2,8 @@
 use Rattle.std.proofs.Common.{◌≡◌, ◌⊎◌, ℕ, suc, ◌+◌, ◌*◌, ◌/◌, ◌%◌, ◌<◌, ◌≤◌, ◌==◌, refl, ap, arith, ℤ, pos, negsuc, ◌+ℤ◌, ◌-ℤ◌, ◌*ℤ◌, unsigned_abs}
 use Rattle.std.proofs.lemmas.Int.{ints}
 use Rattle.std.proofs.lemmas.Bool.Decides.{nat_tests}
-use Rattle.civil.specs.Calendar.{is_leap_year, year_start, HoldsDay}
+use Rattle.civil.specs.Calendar.{is_leap_year, year_start}
+use Rattle.civil.specs.CivilDates.{HoldsDay}
 use Rattle.civil.specs.Inside.LeapDays.{leap_days_to}
 use Rattle.civil.proofs.SignedLemmas.{signed_arith}
 use Rattle.civil.proofs.CalendarLemmas.{year_start-closed}

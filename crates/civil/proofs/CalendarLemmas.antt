@@ -2,7 +2,8 @@
 use Rattle.std.proofs.Common.{◌≡◌, ℕ, zero, suc, ◌+◌, ◌-◌, ◌*◌, ◌/◌, ◌<◌, ◌≤◌, cond, nat_lt, [], ◌∷◌, get_or, refl, sym, ap, arith, ℤ, pos, negsuc, ◌+ℤ◌, ◌-ℤ◌, ◌*ℤ◌, ◌≤ℤ◌, neg_ℤ, unsigned_abs}
 use Rattle.std.proofs.lemmas.Bool.Decides.{nat_tests}
 use Rattle.std.proofs.lemmas.Int.{by_lt_z}
-use Rattle.civil.specs.Calendar.{is_leap_year, days_in_year, days_in_month, days_from_zero, days_to_zero, year_start, days_of_months, day_of, HoldsDay, IsDate, IsDay}
+use Rattle.civil.specs.Calendar.{is_leap_year, days_in_year, days_in_month, days_from_zero, days_to_zero, year_start, days_of_months, day_of}
+use Rattle.civil.specs.CivilDates.{HoldsDay, IsDate, IsDay}
 use Rattle.civil.specs.Inside.LeapDays.{leap_days_to}
 use Rattle.civil.specs.Laws.{CountsYears}
 use Rattle.civil.proofs.SignedLemmas.{signed_arith, one_part}

@@ -1,6 +1,7 @@
 -- An earlier date has a smaller day number.
 use Rattle.std.proofs.Common.{◌≡◌, ℕ, zero, suc, ◌+◌, ◌-◌, ◌<◌, ◌≤◌, inl, inr, sym, arith, ℤ, pos, ◌+ℤ◌, ◌<ℤ◌}
-use Rattle.civil.specs.Calendar.{days_in_month, days_of_months, day_of, IsDate, IsDateOf}
+use Rattle.civil.specs.Calendar.{days_in_month, days_of_months, day_of}
+use Rattle.civil.specs.CivilDates.{IsDate, IsDateOf}
 use Rattle.std.proofs.lemmas.Bool.{cases_lt}
 use Rattle.std.proofs.lemmas.Int.{by_lt_z}
 use Rattle.civil.specs.Laws.{IsEarlier}

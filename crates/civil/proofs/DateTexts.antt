@@ -4,7 +4,8 @@ use Rattle.std.specs.Fmt.{decimal}
 use Rattle.std.specs.Int.{int_div_euclid}
 use Rattle.std.proofs.lemmas.Bool.{cases_lt}
 use Rattle.std.proofs.lemmas.Int.{by_lt_z}
-use Rattle.civil.specs.Calendar.{days_in_month, days_of_months, year_start, HoldsDay, IsDateOf}
+use Rattle.civil.specs.Calendar.{days_in_month, days_of_months, year_start}
+use Rattle.civil.specs.CivilDates.{HoldsDay, IsDateOf}
 use Rattle.civil.specs.Dates.{last_year, year_on, last_month, month_on, day_on, days_before, date_text, ymd_text, year_sign, two_digits, four_digits}
 use Rattle.civil.proofs.SignedLemmas.{signed_arith, one_part}
 use Rattle.civil.proofs.CalendarLemmas.{day_of-is, day_within, starts_in_order, year_start-closed, year_start-next}

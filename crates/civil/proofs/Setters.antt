@@ -1,7 +1,8 @@
 -- What a setter answers, for any reading of the date that it changes.
 use Rattle.std.proofs.Common.{◌≡◌, ◌↔◌, ℕ, ◌-◌, Option, Some, None, IsSome, IfSome, refl, sym, arith, ℤ, pos, negsuc, ◌+ℤ◌, ◌≤ℤ◌}
 use Rattle.std.proofs.lemmas.Int.{by_lt_z}
-use Rattle.civil.specs.Calendar.{year_start, day_of, HoldsDay, IsDate, IsDateOf, IsDay}
+use Rattle.civil.specs.Calendar.{year_start, day_of}
+use Rattle.civil.specs.CivilDates.{HoldsDay, IsDate, IsDateOf, IsDay}
 use Rattle.civil.specs.Ordinals.{IsOrdinal, IsOrdinalOf, ordinal_day}
 use Rattle.civil.proofs.SignedLemmas.{signed_arith}
 use Rattle.civil.proofs.CalendarLemmas.{starts_in_order, year_start-next, first_start, last_start}

@@ -1,6 +1,7 @@
 -- The week of a day, by the place of its Thursday in the year.
 use Rattle.std.proofs.Common.{◌≡◌, ℕ, ◌+◌, ◌/◌, arith, ℤ, pos, ◌+ℤ◌}
-use Rattle.civil.specs.Calendar.{year_start, thursday_of, HoldsDay}
+use Rattle.civil.specs.Calendar.{year_start, thursday_of}
+use Rattle.civil.specs.CivilDates.{HoldsDay}
 use Rattle.civil.specs.Weeks.{IsWeekOf}
 use Rattle.civil.proofs.SignedLemmas.{signed_arith}
 

@@ -1,6 +1,6 @@
 -- The whole years between two dates are those of their readings.
 use Rattle.std.proofs.Common.{◌≡◌, ℕ, ℤ, refl}
-use Rattle.civil.specs.Calendar.{IsDateOf}
+use Rattle.civil.specs.CivilDates.{IsDateOf}
 use Rattle.civil.specs.Ages.{years_between}
 use Rattle.civil.proofs.DateOrder.{date_once}
 

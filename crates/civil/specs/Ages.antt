@@ -1,4 +1,4 @@
--- Whole years between two dates.
+-- Whole years between two dates (docs/CALENDAR.md, "Months and years on").
 use Rattle.std.specs.Prelude.{ℕ, ◌==◌, ◌&&◌, ◌||◌, nat_lt, Bool, if◌then◌else◌, ℤ, pos, ◌-ℤ◌}
 
 -- a month and day of a year come before those of another

@@ -1,5 +1,6 @@
--- The proleptic Gregorian calendar, with a year 0, counted year by year and month by month.
-use Rattle.std.specs.Prelude.{◌≡◌, ℕ, zero, suc, ◌+◌, ◌-◌, ◌*◌, ◌%◌, ◌≤◌, Bool, not, ◌&&◌, ◌||◌, ◌==◌, if◌then◌else◌, [], ◌∷◌, slice_index, ℤ, pos, negsuc, ◌+ℤ◌, ◌-ℤ◌, ◌*ℤ◌, ◌<ℤ◌, ◌≤ℤ◌, neg_ℤ, unsigned_abs}
+-- The proleptic Gregorian calendar, with a year 0, counted year by year and month by month
+-- (docs/CALENDAR.md, "Years and months").
+use Rattle.std.specs.Prelude.{ℕ, zero, suc, ◌+◌, ◌-◌, ◌*◌, ◌%◌, Bool, not, ◌&&◌, ◌||◌, ◌==◌, if◌then◌else◌, [], ◌∷◌, slice_index, ℤ, pos, negsuc, ◌+ℤ◌, ◌-ℤ◌, ◌*ℤ◌, neg_ℤ, unsigned_abs}
 use Rattle.std.specs.Int.{int_rem_euclid}
 
 -- 4 divides the year and 100 does not, or 400 divides it
@@ -64,27 +65,3 @@ wall_second day hour minute second = pos 86400 *ℤ day +ℤ pos (3600 * hour + 
 -- the first second of a year
 abbrev pub year_second : ℤ → ℤ
 year_second y = pos 86400 *ℤ year_start y
-
--- the calendar has this date
-pub record IsDate (y : ℤ) (m d : ℕ) : Type 0 where
-  pub first_year : negsuc 262142 ≤ℤ y
-  pub last_year : y ≤ℤ pos 262142
-  pub first_month : 1 ≤ m
-  pub last_month : m ≤ 12
-  pub first_day : 1 ≤ d
-  pub last_day : d ≤ days_in_month y m
-
--- the calendar has the day of this number
-pub record IsDay (day : ℤ) : Type 0 where
-  pub first : negsuc 96465291 ≤ℤ day
-  pub last : day ≤ℤ pos 95026236
-
--- the day of this number is this date of the calendar
-pub record IsDateOf (day y : ℤ) (m d : ℕ) : Type 0 where
-  pub exists : IsDate y m d
-  pub is : day_of y m d ≡ day
-
--- the day lies in the year
-pub record HoldsDay (y day : ℤ) : Type 0 where
-  pub begun : year_start y ≤ℤ day
-  pub not_over : day <ℤ year_start (y +ℤ pos 1)

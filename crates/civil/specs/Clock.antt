@@ -1,4 +1,4 @@
--- Clock times, and the wall seconds of the calendar.
+-- Clock times, and the wall seconds of the calendar (docs/CALENDAR.md, "Clock times").
 use Rattle.std.specs.Prelude.{◌≡◌, ℕ, ◌+◌, ◌*◌, ◌<◌, ◌≤◌, ℤ, pos, negsuc, ◌≤ℤ◌, unsigned_abs}
 use Rattle.std.specs.Int.{int_div_euclid, int_rem_euclid}
 

@@ -1,4 +1,4 @@
--- How a date is written: year, month and day with dashes.
+-- How a date is written: year, month and day with dashes (docs/CALENDAR.md, "The text of a date").
 use Rattle.std.specs.Prelude.{ℕ, zero, suc, ◌+◌, ◌-◌, ◌/◌, ◌%◌, List, [], ◌∷◌, ◌++◌, codes, if◌then◌else◌, nat_lt, ℤ, pos, ◌+ℤ◌, ◌-ℤ◌, ◌*ℤ◌, int_lt, unsigned_abs}
 use Rattle.std.specs.Int.{int_div_euclid}
 use Rattle.std.specs.Fmt.{decimal}

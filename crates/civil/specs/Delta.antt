@@ -1,4 +1,4 @@
--- Lengths of time, as whole nanoseconds.
+-- Lengths of time, as whole nanoseconds (docs/CALENDAR.md, "Lengths of time").
 use Rattle.std.specs.Prelude.{ℕ, ◌≤◌, ℤ, pos, ◌*ℤ◌, unsigned_abs}
 
 -- at most so far from 0

@@ -1,6 +1,8 @@
--- What the calendar keeps: the count of years as its two equations, dates against day numbers, and the kinds of years.
+-- What the calendar keeps: the count of years as its two equations, dates against day numbers, and the kinds of years
+-- (docs/CALENDAR.md, "Years and months").
 use Rattle.std.specs.Prelude.{◌≡◌, ◌⊎◌, ◌<◌, ℕ, ℤ, pos, ◌+ℤ◌, ◌<ℤ◌, ◌≤ℤ◌}
-use Rattle.civil.specs.Calendar.{year_start, days_in_year, days_in_month, day_of, weekday_of, year_kind, IsDate, IsDay, IsDateOf}
+use Rattle.civil.specs.Calendar.{year_start, days_in_year, days_in_month, day_of, weekday_of, year_kind}
+use Rattle.civil.specs.CivilDates.{IsDate, IsDay, IsDateOf}
 
 -- day 0 begins the year 1970, and each year begins where the one before it ends, before 1970 too
 pub record CountsYears : Type 0 where

@@ -1,4 +1,4 @@
--- Dates moved by months.
+-- Dates moved by months (docs/CALENDAR.md, "Months and years on").
 use Rattle.std.specs.Prelude.{ℕ, ◌+◌, ◌-◌, ℤ, pos, ◌+ℤ◌, ◌*ℤ◌, min, unsigned_abs}
 use Rattle.std.specs.Int.{int_div_euclid, int_rem_euclid}
 use Rattle.civil.specs.Calendar.{days_in_month, day_of}

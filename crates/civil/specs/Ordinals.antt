@@ -1,4 +1,4 @@
--- Days by their place in the year.
+-- Days by their place in the year (docs/CALENDAR.md, "Dates").
 use Rattle.std.specs.Prelude.{◌≡◌, ℕ, ◌-◌, ◌≤◌, ℤ, pos, ◌+ℤ◌}
 use Rattle.civil.specs.Calendar.{days_in_year, year_start}
 

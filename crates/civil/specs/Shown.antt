@@ -1,4 +1,4 @@
--- Which seconds show a wall second, where `off` tells the offset at each second.
+-- Which seconds show a wall second, where `off` tells the offset at each second (docs/ZONES.md, "Placement").
 use Rattle.std.specs.Prelude.{◌≡◌, ◌⊎◌, ℤ, ◌+ℤ◌, ◌<ℤ◌, ◌≤ℤ◌}
 
 -- a clock shows w at the second t

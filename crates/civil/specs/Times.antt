@@ -1,4 +1,4 @@
--- What contracts read of a clock time, and of a day with one.
+-- What contracts read of a clock time, and of a day with one (docs/CALENDAR.md, "Clock times").
 use Rattle.std.specs.Prelude.{ℕ, ℤ}
 use Rattle.civil.specs.declared.time.NaiveTime.{NaiveTime}
 use Rattle.civil.specs.declared.datetime.NaiveDateTime.{NaiveDateTime}

@@ -1,4 +1,4 @@
--- The days of the week.
+-- The days of the week (docs/CALENDAR.md, "Days of the week, and weeks").
 use Rattle.std.specs.Prelude.{ℕ}
 use Rattle.civil.specs.declared.weekday.Weekday.{Weekday}
 use Rattle.civil.specs.declared.weekday.Weekday.TheVariants.{Mon, Tue, Wed, Thu, Fri, Sat, Sun}

@@ -1,6 +1,7 @@
--- The weeks of ISO 8601.
+-- The weeks of ISO 8601 (docs/CALENDAR.md, "Days of the week, and weeks").
 use Rattle.std.specs.Prelude.{ℕ, ◌*◌, ◌-◌, ℤ, pos, ◌+ℤ◌, ◌≤ℤ◌, ◌<ℤ◌}
-use Rattle.civil.specs.Calendar.{year_start, thursday_of, HoldsDay}
+use Rattle.civil.specs.Calendar.{year_start, thursday_of}
+use Rattle.civil.specs.CivilDates.{HoldsDay}
 use Rattle.civil.specs.declared.iso_week.IsoWeek.{IsoWeek}
 
 -- a week belongs to the year of its Thursday, and week 1 holds the year's first Thursday

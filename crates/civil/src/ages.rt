@@ -1,6 +1,6 @@
 //! Whole years between dates.
 ghost use Rattle.std.specs.Prelude.{◌≡◌, ◌↔◌, ℕ, ℤ, pos, negsuc, ◌-ℤ◌, ◌≤ℤ◌, if◌then◌else◌, IsSome, IfSome};
-ghost use Rattle.civil.specs.Calendar.{IsDateOf};
+ghost use Rattle.civil.specs.CivilDates.{IsDateOf};
 ghost use Rattle.civil.specs.Ages.{is_before, years_between};
 
 use crate::date::{NaiveDate, year_month_day};

@@ -1,6 +1,7 @@
 //! Years and months as day numbers.
 ghost use Rattle.std.specs.Prelude.{◌≡◌, ◌+◌, ◌-◌, ◌*◌, ◌/◌, ◌<◌, ◌≤◌, ◌↔◌, ℤ, pos, negsuc, ◌+ℤ◌, ◌*ℤ◌, ◌≤ℤ◌, ◌<ℤ◌, IsSome, IfSome};
-ghost use Rattle.civil.specs.Calendar.{is_leap_year, days_in_month, days_of_months, year_start, year_kind, HoldsDay};
+ghost use Rattle.civil.specs.Calendar.{is_leap_year, days_in_month, days_of_months, year_start, year_kind};
+ghost use Rattle.civil.specs.CivilDates.{HoldsDay};
 ghost use Rattle.civil.specs.Inside.LeapDays.{leap_days_to};
 
 // The day of a common year, from 0, on which each month begins.

@@ -1,5 +1,6 @@
 ghost use Rattle.std.specs.Prelude.{◌≡◌, ◌+◌, ◌-◌, ◌<◌, ◌≤◌, ◌↔◌, ℕ, ℤ, pos, negsuc, ◌+ℤ◌, ◌≤ℤ◌, IsSome, IfSome};
-ghost use Rattle.civil.specs.Calendar.{days_in_year, days_of_months, year_start, day_of, weekday_of, HoldsDay, IsDate, IsDay, IsDateOf};
+ghost use Rattle.civil.specs.Calendar.{days_in_year, days_of_months, year_start, day_of, weekday_of};
+ghost use Rattle.civil.specs.CivilDates.{HoldsDay, IsDate, IsDay, IsDateOf};
 ghost use Rattle.civil.specs.Ordinals.{IsOrdinal, IsOrdinalOf, ordinal_day};
 ghost use Rattle.civil.specs.Weeks.{IsWeekOf, week_year, week_number};
 ghost use Rattle.civil.specs.Weekdays.{days_from_monday};

@@ -1,5 +1,6 @@
 ghost use Rattle.std.specs.Prelude.{◌≡◌, pos, negsuc, ◌≤ℤ◌};
-ghost use Rattle.civil.specs.Calendar.{IsDay, thursday_of};
+ghost use Rattle.civil.specs.CivilDates.{IsDay};
+ghost use Rattle.civil.specs.Calendar.{thursday_of};
 
 use crate::calendar::year_of_day;
 use crate::date::ordinal_in;

@@ -1,5 +1,6 @@
 ghost use Rattle.std.specs.Prelude.{◌≡◌, ℕ, ℤ, pos, negsuc};
-ghost use Rattle.civil.specs.Calendar.{day_of, IsDateOf};
+ghost use Rattle.civil.specs.Calendar.{day_of};
+ghost use Rattle.civil.specs.CivilDates.{IsDateOf};
 ghost use Rattle.civil.specs.Dates.{date_text, ymd_text};
 ghost use Rattle.civil.specs.Laws.{CountsYears, DatesAreDays, KindsOfYear, YearsRepeat};
 

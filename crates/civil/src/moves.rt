@@ -1,6 +1,6 @@
 //! Dates moved by days, by months and by lengths of time.
 ghost use Rattle.std.specs.Prelude.{◌≡◌, ◌≤◌, ◌↔◌, ℕ, ℤ, pos, negsuc, neg_ℤ, ◌+ℤ◌, ◌-ℤ◌, ◌*ℤ◌, ◌≤ℤ◌, int_div, IsSome, IfSome};
-ghost use Rattle.civil.specs.Calendar.{IsDay, IsDateOf};
+ghost use Rattle.civil.specs.CivilDates.{IsDay, IsDateOf};
 ghost use Rattle.civil.specs.Delta.{day_nanos};
 ghost use Rattle.civil.specs.Months.{months_on, moved_year, moved_month};
 

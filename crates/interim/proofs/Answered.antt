@@ -8,7 +8,11 @@ use Rattle.interim.specs.declared.types.TimeSpec.{TimeSpec}
 use Rattle.interim.specs.declared.types.Direction.{Direction}
 use Rattle.interim.specs.declared.types.Dialect.{Dialect}
 use Rattle.interim.specs.Refusal.{Ends, Gives, Answers, within}
-use Rattle.interim.specs.Meaning.{Aim, Wall, Lands, aim, clock_on, clock_time, date_at, month_day, own_weekday, week_day, weeks_on, weeks_more, step_by, sought, time_at, time_cmp, midnight, deciding_time}
+use Rattle.interim.specs.Aims.{Aim, aim, clock_on, clock_time, midnight}
+use Rattle.interim.specs.Walls.{Wall, month_day, step_by, sought}
+use Rattle.interim.specs.Meaning.{Lands}
+use Rattle.interim.specs.DatesAndTimes.{date_at, time_at, time_cmp}
+use Rattle.interim.specs.NamedDates.{own_weekday, week_day, weeks_on, weeks_more, deciding_time}
 
 -- a refusal goes on where nothing there leaves nothing here
 pub refused_on : {T U V W : Type 0} (memory memory' : Bool) (view : T → V) (view' : U → W) (e : Refused) (found : Option V) (found' : Option W)

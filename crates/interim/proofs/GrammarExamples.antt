@@ -11,11 +11,19 @@ use Rattle.interim.specs.declared.types.Dialect.TheVariants.{Uk, Us}
 use Rattle.interim.specs.declared.types.Direction.TheVariants.{Here}
 use Rattle.interim.specs.declared.types.Interval.TheVariants.{Seconds}
 use Rattle.interim.specs.declared.types.TimeSpec.{TimeSpec}
-use Rattle.interim.specs.DatePart.{date_part, first, head, word_head, month_head, number_head, number_then_word, dashed, slashed, units_on, absolute}
+use Rattle.interim.specs.DatePart.{date_part, first, head}
+use Rattle.interim.specs.WordHeads.{word_head, month_head}
+use Rattle.interim.specs.NumberHeads.{number_head, number_then_word}
+use Rattle.interim.specs.NumberedDates.{dashed, slashed}
+use Rattle.interim.specs.CountedDates.{units_on}
+use Rattle.interim.specs.DateForms.{absolute}
 use Rattle.interim.specs.Grammar.{both_parts, parts_of, duration_of}
 use Rattle.interim.specs.Parts.{clock, with_offset}
-use Rattle.interim.specs.Steps.{number, dash, follows, following_number, pass_over}
-use Rattle.interim.specs.TimePart.{fraction, written_offset, closing, after_minute, formal, after_hour, whole_time, time_part}
+use Rattle.interim.specs.ReadingSteps.{number, dash, follows, following_number, pass_over}
+use Rattle.interim.specs.TimeEnds.{fraction, written_offset, closing}
+use Rattle.interim.specs.ClockTimes.{after_minute, formal}
+use Rattle.interim.specs.OpenHours.{after_hour}
+use Rattle.interim.specs.TimePart.{whole_time, time_part}
 use Rattle.interim.specs.Tokens.{more, kind_of, split_at, tokens, tokens_of, phrase_tokens}
 use Rattle.interim.specs.Words.{month_of, weekday_of, unit_of, day_of_word, direction_of, half_of, is_ago, is_capital_t}
 

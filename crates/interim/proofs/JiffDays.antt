@@ -17,7 +17,7 @@ use Rattle.jiff_core.specs.declared.civil.date.Date.{Date}
 use Rattle.jiff_core.proofs.CalendarLemmas.{day_count-epoch, day_count_bounds, days_of_months_table}
 use Rattle.jiff_core.proofs.DateLemmas.{civil}
 use Rattle.interim.specs.Jiff.{jiff_days}
-use Rattle.interim.specs.Meaning.{is_date, date_at, IsDateOn}
+use Rattle.interim.specs.DatesAndTimes.{is_date, date_at, IsDateOn}
 use Rattle.interim.specs.Refusal.{within}
 use Rattle.interim.proofs.Stretches.{test_cases, is_date-of, is_date-tells, is_within-of, is_within-not}
 

@@ -13,7 +13,11 @@ use Rattle.interim.specs.declared.types.Direction.{Direction}
 use Rattle.interim.specs.declared.types.Direction.TheVariants.{Here, Last, Next}
 use Rattle.interim.specs.declared.types.Interval.TheVariants.{Days}
 use Rattle.interim.specs.declared.types.TimeSpec.{TimeSpec}
-use Rattle.interim.specs.Meaning.{AtSecond, AtWall, LeadsTo, Wall, clock_on, own_weekday, sought, step_by, time_at, week_day, weeks_more, weeks_on}
+use Rattle.interim.specs.Aims.{AtSecond, AtWall, clock_on}
+use Rattle.interim.specs.PartMeanings.{LeadsTo}
+use Rattle.interim.specs.Walls.{Wall, sought, step_by}
+use Rattle.interim.specs.NamedDates.{own_weekday, week_day, weeks_more, weeks_on}
+use Rattle.interim.specs.DatesAndTimes.{time_at}
 use Rattle.interim.specs.Parts.{clock, with_offset}
 use Rattle.interim.specs.Refusal.{civil_days, within}
 

@@ -17,7 +17,12 @@ use Rattle.interim.specs.declared.types.DateSpec.{DateSpec}
 use Rattle.interim.specs.declared.types.DateSpec.TheVariants.{Absolute, Relative, FromName}
 use Rattle.interim.specs.declared.types.TimeSpec.{TimeSpec}
 use Rattle.interim.specs.Refusal.{Ends, is_within, within}
-use Rattle.interim.specs.Meaning.{Aim, AtSecond, AtWall, Wall, IsDateOn, IsNamed, LeadsTo, Lands, Means, MeansFromWall, MeansIn, PartsLeadTo, clock_or, midnight, moment_at, month_day}
+use Rattle.interim.specs.Aims.{Aim, AtSecond, AtWall, clock_or, midnight}
+use Rattle.interim.specs.Walls.{Wall, month_day}
+use Rattle.interim.specs.DatesAndTimes.{IsDateOn}
+use Rattle.interim.specs.NamedDates.{IsNamed}
+use Rattle.interim.specs.PartMeanings.{LeadsTo, PartsLeadTo}
+use Rattle.interim.specs.Meaning.{Lands, Means, MeansFromWall, MeansIn, moment_at}
 use Rattle.interim.proofs.Stretches.{is_date-tells}
 
 -- a day has one date

@@ -2,10 +2,14 @@
 use Rattle.std.proofs.Common.{◌≡◌, ℕ, ◌≤◌, List, [], ◌∷◌, ◌++◌, ◌≢◌, eqb, take, drop, None, Bool, true, false, if◌then◌else◌, refl, sym, ap, ◌∙◌, arith}
 use Rattle.std.proofs.lemmas.Bool.Decides.{nat_tests}
 use Rattle.std.specs.List.{prefix_len}
-use Rattle.interim.specs.Tokens.{Number, Dash, Colon, is_blank, is_digit, is_letter, decimal_from, more, kind_of, split_at, tokens, tokens_of, phrase_tokens}
-use Rattle.interim.specs.PlainForm.{kinds, Dashed, Minutes, PlainPhrase, spelled, spelled_date, spelled_t, spelled_time}
+use Rattle.interim.specs.TokenKinds.{Number, Dash, Colon}
+use Rattle.interim.specs.Characters.{is_blank, is_digit, is_letter, decimal_from}
+use Rattle.interim.specs.Tokens.{more, kind_of, split_at, tokens, tokens_of, phrase_tokens}
+use Rattle.interim.specs.PlainDates.{kinds, Dashed, spelled_date}
+use Rattle.interim.specs.PlainTimes.{Minutes, spelled_time}
+use Rattle.interim.specs.PlainForm.{PlainPhrase, spelled, spelled_t}
 use Rattle.interim.specs.declared.types.Dialect.{Dialect}
-use Rattle.interim.specs.Laws.{IsReadAsNamed}
+use Rattle.interim.specs.PlainFormLaws.{IsReadAsNamed}
 use Rattle.interim.specs.Parts.{date_of, clock}
 use Rattle.interim.proofs.PlainReading.{form_read}
 use Rattle.interim.proofs.Tail.{tokens_split}

@@ -1,7 +1,8 @@
 -- A phrase of the plain form means the wall second that it names, as the zone places it.
 use Rattle.std.proofs.Common.{◌≡◌, inl, inr, ℕ, ◌/◌, ◌%◌, ◌<◌, length, Option, Some, None, Ok, Result, true, false, ℤ, pos, ◌+ℤ◌, ◌≤ℤ◌, refl, sym, ap, subst, ◌∙◌, ◌*ℤ◌, arith}
 use Rattle.std.specs.Prelude.{option_and_then, MatchResult}
-use Rattle.civil.specs.Calendar.{day_of, IsDate, IsDay}
+use Rattle.civil.specs.Calendar.{day_of}
+use Rattle.civil.specs.CivilDates.{IsDate, IsDay}
 use Rattle.civil.specs.Clock.{IsWallSecond, clock_second}
 use Rattle.civil.proofs.SignedLemmas.{signed_arith}
 use Rattle.civil.proofs.CalendarLemmas.{day_of-is, day_within, days_in_year_bound, in_calendar, leap_days_bound, starts_in_order, year_start-closed}
@@ -14,8 +15,10 @@ use Rattle.interim.specs.declared.types.DateTimeSpec.{DateTimeSpec}
 use Rattle.interim.specs.declared.types.Dialect.{Dialect}
 use Rattle.interim.specs.declared.types.TimeSpec.{TimeSpec}
 use Rattle.interim.specs.Grammar.{parts_of}
-use Rattle.interim.specs.Laws.{AreSmallParts, IsFaultIn}
-use Rattle.interim.specs.Meaning.{Aim, AtWall, Lands, MeansIn, aim, clock_or, clock_time, date_at, midnight, moment_at}
+use Rattle.interim.specs.PartLaws.{AreSmallParts, IsFaultIn}
+use Rattle.interim.specs.Aims.{Aim, AtWall, aim, clock_or, clock_time, midnight}
+use Rattle.interim.specs.Meaning.{Lands, MeansIn, moment_at}
+use Rattle.interim.specs.DatesAndTimes.{date_at}
 use Rattle.interim.specs.MeaningLaws.{PlainFormsMean}
 use Rattle.interim.specs.PlainForm.{IsWall}
 use Rattle.interim.specs.Refusal.{civil_days, civil_seconds}

@@ -11,14 +11,28 @@ use Rattle.interim.specs.declared.words.Half.{Half}
 use Rattle.interim.specs.declared.types.Dialect.{Dialect}
 use Rattle.interim.specs.declared.types.Dialect.TheVariants.{Uk, Us}
 use Rattle.interim.specs.declared.types.TimeSpec.{TimeSpec}
-use Rattle.interim.specs.Tokens.{Token, Kind, Number, Colon}
-use Rattle.interim.specs.Words.{counted, month_from, half_from, is_capital_t, month_of, half_of, is_z, day_of_word, direction_of}
+use Rattle.interim.specs.TokenKinds.{Token, Kind, Number, Colon}
+use Rattle.interim.specs.CalendarNames.{counted, month_from}
+use Rattle.interim.specs.WordMeanings.{half_from}
+use Rattle.interim.specs.Words.{is_capital_t, month_of, half_of, is_z, day_of_word, direction_of}
 use Rattle.interim.specs.Parts.{date_of, clock, shifted}
-use Rattle.interim.specs.PlainForm.{kinds, PlainDate, Dashed, Slashed, DayFirst, MonthFirst, spelled_date, date_named, PlainTime, Minutes, Seconds, Dotted, Lone, spelled_time, spelled_half, hour_named, time_named, spelled_t, PlainPhrase, spelled}
+use Rattle.interim.specs.PlainDates.{kinds, PlainDate, Dashed, Slashed, DayFirst, MonthFirst, spelled_date, date_named}
+use Rattle.interim.specs.PlainTimes.{PlainTime, Minutes, Seconds, Dotted, Lone, spelled_time, spelled_half, hour_named, time_named}
+use Rattle.interim.specs.PlainForm.{spelled_t, PlainPhrase, spelled}
 use Rattle.interim.specs.Grammar.{parts_of, both_parts}
-use Rattle.interim.specs.Steps.{number, dash, follows, following_number, next_token, after_token, Outcome}
-use Rattle.interim.specs.DatePart.{dated, date_part, first, head, number_head, dashed, slashed, number_then_word, day_month, word_head, month_head}
-use Rattle.interim.specs.TimePart.{closing, after_minute, formal, informal, informal_close, after_hour, whole_time, time_part, fraction, hour_or_end}
+use Rattle.interim.specs.ReadingSteps.{number, dash, follows, following_number}
+use Rattle.interim.specs.NextTokens.{next_token, after_token}
+use Rattle.interim.specs.Steps.{Outcome}
+use Rattle.interim.specs.DateForms.{dated}
+use Rattle.interim.specs.DatePart.{date_part, first, head}
+use Rattle.interim.specs.NumberHeads.{number_head, number_then_word}
+use Rattle.interim.specs.NumberedDates.{dashed, slashed}
+use Rattle.interim.specs.CountedDates.{day_month}
+use Rattle.interim.specs.WordHeads.{word_head, month_head}
+use Rattle.interim.specs.TimeEnds.{closing, fraction}
+use Rattle.interim.specs.ClockTimes.{after_minute, formal, informal, informal_close}
+use Rattle.interim.specs.OpenHours.{after_hour}
+use Rattle.interim.specs.TimePart.{whole_time, time_part, hour_or_end}
 
 -- ---- tokens of given kinds
 

@@ -15,12 +15,19 @@ use Rattle.interim.specs.declared.words.Half.{Half}
 use Rattle.interim.specs.Grammar.{parts_of, both_parts}
 use Rattle.interim.specs.Intervals.{scaled}
 use Rattle.interim.specs.Parts.{clock, shifted}
-use Rattle.interim.specs.Steps.{follows}
-use Rattle.interim.specs.DatePart.{date_part, first, head, number_head, number_then_word, units_on, word_head}
-use Rattle.interim.specs.TimePart.{after_hour, time_part, whole_time}
-use Rattle.interim.specs.Tokens.{Token, Kind, Number, Word, decimal_from, is_blank, is_digit, is_letter, run_len, more, kind_of, split_at, tokens, tokens_of}
-use Rattle.interim.specs.Words.{counted, day_of_word, direction_of, half_of, is_ago, month_of, unit_of, weekday_from, weekday_of}
-use Rattle.interim.specs.PlainForm.{kinds}
+use Rattle.interim.specs.ReadingSteps.{follows}
+use Rattle.interim.specs.DatePart.{date_part, first, head}
+use Rattle.interim.specs.NumberHeads.{number_head, number_then_word}
+use Rattle.interim.specs.CountedDates.{units_on}
+use Rattle.interim.specs.WordHeads.{word_head}
+use Rattle.interim.specs.OpenHours.{after_hour}
+use Rattle.interim.specs.TimePart.{time_part, whole_time}
+use Rattle.interim.specs.TokenKinds.{Token, Kind, Number, Word}
+use Rattle.interim.specs.Characters.{decimal_from, is_blank, is_digit, is_letter, run_len}
+use Rattle.interim.specs.Tokens.{more, kind_of, split_at, tokens, tokens_of}
+use Rattle.interim.specs.CalendarNames.{counted, weekday_from}
+use Rattle.interim.specs.Words.{day_of_word, direction_of, half_of, is_ago, month_of, unit_of, weekday_of}
+use Rattle.interim.specs.PlainDates.{kinds}
 use Rattle.interim.specs.declared.words.Half.TheVariants.{Am, Pm}
 use Rattle.interim.specs.Inside.ReadAs.{IsReadAs, half_text}
 use Rattle.interim.specs.Tokens.{phrase_tokens}

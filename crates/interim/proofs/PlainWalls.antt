@@ -1,7 +1,8 @@
 -- The wall second of a phrase of the plain form lies well inside the calendar.
 use Rattle.std.proofs.Common.{◌≡◌, ℕ, ◌<◌, length, Ok, Result, ℤ, pos, negsuc, ◌+ℤ◌, ◌-ℤ◌, ◌*ℤ◌, ◌≤ℤ◌, refl, subst, arith}
 use Rattle.std.specs.Prelude.{MatchResult}
-use Rattle.civil.specs.Calendar.{day_of, IsDate, IsDay, wall_second}
+use Rattle.civil.specs.Calendar.{day_of, wall_second}
+use Rattle.civil.specs.CivilDates.{IsDate, IsDay}
 use Rattle.civil.specs.Clock.{IsWallSecond}
 use Rattle.civil.proofs.SignedLemmas.{signed_arith}
 use Rattle.civil.proofs.CalendarLemmas.{day_of-is, day_within, leap_days_bound, starts_in_order, year_start-closed}
@@ -10,7 +11,7 @@ use Rattle.interim.specs.declared.types.DateSpec.TheVariants.{Absolute}
 use Rattle.interim.specs.declared.types.DateTimeSpec.{DateTimeSpec}
 use Rattle.std.proofs.Common.{Some}
 use Rattle.interim.specs.Grammar.{parts_of}
-use Rattle.interim.specs.Laws.{AreSmallParts, IsFaultIn}
+use Rattle.interim.specs.PartLaws.{AreSmallParts, IsFaultIn}
 use Rattle.interim.specs.MeaningLaws.{PlainFormsAreInside}
 use Rattle.interim.specs.Tokens.{phrase_tokens}
 use Rattle.interim.proofs.PlainMeaning.{few_days_on}

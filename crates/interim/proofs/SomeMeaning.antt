@@ -15,7 +15,12 @@ use Rattle.interim.specs.declared.types.Dialect.{Dialect}
 use Rattle.interim.specs.declared.types.Direction.{Direction}
 use Rattle.interim.specs.declared.types.Interval.TheVariants.{Seconds, Days, Months}
 use Rattle.interim.specs.declared.types.TimeSpec.{TimeSpec}
-use Rattle.interim.specs.Meaning.{Aim, AtSecond, AtWall, Wall, IsDateOn, IsFromWall, IsNamed, Lands, LeadsTo, MeansFromWall, MeansIn, PartsLeadTo, clock_on, clock_or, date_at, midnight, moment_at, month_day, week_day}
+use Rattle.interim.specs.Aims.{Aim, AtSecond, AtWall, clock_on, clock_or, midnight}
+use Rattle.interim.specs.Walls.{Wall, month_day}
+use Rattle.interim.specs.DatesAndTimes.{IsDateOn, date_at}
+use Rattle.interim.specs.PartMeanings.{IsFromWall, LeadsTo, PartsLeadTo}
+use Rattle.interim.specs.NamedDates.{IsNamed, week_day}
+use Rattle.interim.specs.Meaning.{Lands, MeansFromWall, MeansIn, moment_at}
 use Rattle.interim.specs.MeaningLaws.{SomeMeaning}
 use Rattle.interim.specs.Refusal.{civil_days, civil_seconds, is_within, within}
 use Rattle.interim.proofs.Stretches.{date_on, is_within-tells, test_cases}

@@ -19,13 +19,24 @@ use Rattle.interim.specs.declared.date_part.Opening.TheVariants.{Bare, Minus, Di
 use Rattle.interim.specs.declared.date_part.DatePart.{DatePart}
 use Rattle.interim.specs.declared.time_part.ClockFront.{ClockFront}
 use Rattle.interim.specs.declared.time_part.ClockFront.TheVariants.{Nothing, OpenHour, FormalHour, InformalHour, LoneHour}
-use Rattle.interim.specs.Laws.{HasFewDigits, IsSmallDate, IsSmall}
+use Rattle.interim.specs.TokenLaws.{HasFewDigits}
+use Rattle.interim.specs.PartLaws.{IsSmallDate, IsSmall}
 use Rattle.interim.specs.Intervals.{count_of, scaled}
 use Rattle.interim.specs.Parts.{date_of, full_year, shifted}
-use Rattle.interim.specs.Words.{counted, is_short_for, month_of, weekday_of, unit_of, day_of_word, direction_of, half_of, is_ago}
-use Rattle.interim.specs.Tokens.{Token, Kind, Number, Word, Dash, Slash, Colon, Dot, Comma, Plus, Unknown}
-use Rattle.interim.specs.Steps.{number, dash, follows, following_number, next, peek, pass_over, is_comma, is_slash, Step, pure, refuse, ◌>>=◌}
-use Rattle.interim.specs.DatePart.{dated, timed, absolute, day_and_month, month_and_day, month_alone, month_head, directed_count, word_head, number_alone, dashed, slashed, slashed_end, day_of_pair, month_of_pair, year_missing, day_month, times_back, times_on, unit_alone, unit_then, unit_then_kind, units_on, units, number_then_word, undirected, number_then_kind, number_head, direction_in, signed_word_head, head_kind, head, first_word, first_kind, first, date_part}
+use Rattle.interim.specs.CalendarNames.{counted}
+use Rattle.interim.specs.WordMeanings.{is_short_for}
+use Rattle.interim.specs.Words.{month_of, weekday_of, unit_of, day_of_word, direction_of, half_of, is_ago}
+use Rattle.interim.specs.TokenKinds.{Token, Kind, Number, Word, Dash, Slash, Colon, Dot, Comma, Plus, Unknown}
+use Rattle.interim.specs.ReadingSteps.{number, dash, follows, following_number, pass_over}
+use Rattle.interim.specs.NextTokens.{next, peek, refuse}
+use Rattle.interim.specs.TokenTests.{is_comma, is_slash}
+use Rattle.interim.specs.Steps.{Step, pure, ◌>>=◌}
+use Rattle.interim.specs.DateForms.{dated, timed, absolute, day_and_month, direction_in}
+use Rattle.interim.specs.WordHeads.{month_and_day, month_alone, month_head, directed_count, word_head}
+use Rattle.interim.specs.NumberedDates.{number_alone, dashed, slashed, slashed_end, day_of_pair, month_of_pair, year_missing}
+use Rattle.interim.specs.CountedDates.{day_month, times_back, times_on, unit_alone, unit_then, unit_then_kind, units_on, units}
+use Rattle.interim.specs.NumberHeads.{number_then_word, undirected, number_then_kind, number_head}
+use Rattle.interim.specs.DatePart.{signed_word_head, head_kind, head, first_word, first_kind, first, date_part}
 use Rattle.interim.proofs.SoundSteps.{given_keeps, given_any_keeps, Holds, IfToken, Keeps, keeps_then, either_keeps, pure_keeps, number_keeps, following_keeps, dash_keeps, pass_keeps, peek_keeps, follows_keeps, next_keeps}
 use Rattle.interim.proofs.SoundTime.{IsSmallFront, abs-neg, shifted_small}
 

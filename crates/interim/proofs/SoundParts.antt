@@ -11,9 +11,11 @@ use Rattle.interim.specs.declared.types.TimeSpec.{TimeSpec}
 use Rattle.interim.specs.DatePart.{date_part}
 use Rattle.interim.specs.TimePart.{time_part}
 use Rattle.interim.specs.Grammar.{read_of, time_of, both_parts, parts_of}
-use Rattle.interim.specs.Laws.{AreInOrder, AllHaveFewDigits, IsFaultIn, IsSmall, AreSmallParts, TimesAreSound, PartsAreSound}
+use Rattle.interim.specs.TokenLaws.{AreInOrder, AllHaveFewDigits}
+use Rattle.interim.specs.PartLaws.{IsFaultIn, IsSmall, AreSmallParts, TimesAreSound, PartsAreSound}
 use Rattle.interim.specs.Steps.{Outcome, pure}
-use Rattle.interim.specs.Tokens.{Token, phrase_tokens, tokens_of}
+use Rattle.interim.specs.TokenKinds.{Token}
+use Rattle.interim.specs.Tokens.{phrase_tokens, tokens_of}
 use Rattle.interim.proofs.SoundSteps.{AllHold, FaultHolds, Kept, Keeps, keeps_then, pure_keeps}
 use Rattle.interim.proofs.SoundDate.{IsSmallPart, HasClock, date_keeps}
 use Rattle.interim.proofs.SoundTime.{IsSmallOption, IsTimeFrom, time_keeps}

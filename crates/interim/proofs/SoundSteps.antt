@@ -4,9 +4,12 @@ use Rattle.interim.specs.declared.errors.DateError.{DateError}
 use Rattle.interim.specs.declared.errors.DateError.TheVariants as error
 use Rattle.interim.specs.declared.errors.Expected.TheVariants as expected
 use Rattle.interim.specs.declared.errors.Span.{Span}
-use Rattle.interim.specs.Laws.{HasFewDigits}
-use Rattle.interim.specs.Tokens.{Token, Kind, Number, Word, Dash, Slash, Colon, Dot, Comma, Plus, Unknown}
-use Rattle.interim.specs.Steps.{Outcome, Step, and_then, ◌>>=◌, pure, stop, next, peek, fault_at, given, kind_number, number, dash, is_dash, follows, taken, following_number, pass_over}
+use Rattle.interim.specs.TokenLaws.{HasFewDigits}
+use Rattle.interim.specs.TokenKinds.{Token, Kind, Number, Word, Dash, Slash, Colon, Dot, Comma, Plus, Unknown}
+use Rattle.interim.specs.Steps.{Outcome, Step, and_then, ◌>>=◌, pure, stop}
+use Rattle.interim.specs.NextTokens.{next, peek, fault_at, given}
+use Rattle.interim.specs.TokenTests.{kind_number, is_dash}
+use Rattle.interim.specs.ReadingSteps.{number, dash, follows, taken, following_number, pass_over}
 
 abbrev pub Holds : (Span → Type 0) → Token → Type 0
 Holds Inside t = HasFewDigits t.kind × Inside t.span

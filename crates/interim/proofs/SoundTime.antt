@@ -7,12 +7,19 @@ use Rattle.interim.specs.declared.words.Half.{Half}
 use Rattle.interim.specs.declared.words.Half.TheVariants.{Am, Pm}
 use Rattle.interim.specs.declared.time_part.ClockFront.{ClockFront}
 use Rattle.interim.specs.declared.time_part.ClockFront.TheVariants.{Nothing, OpenHour, FormalHour, InformalHour, LoneHour}
-use Rattle.interim.specs.Laws.{IsSmallTime, HasFewDigits}
+use Rattle.interim.specs.PartLaws.{IsSmallTime}
+use Rattle.interim.specs.TokenLaws.{HasFewDigits}
 use Rattle.interim.specs.Parts.{clock, with_offset, shifted, in_half}
 use Rattle.interim.specs.Words.{half_of, is_z}
-use Rattle.interim.specs.Tokens.{Token, Kind, Number, Word, Dash, Slash, Colon, Dot, Comma, Plus, Unknown}
-use Rattle.interim.specs.Steps.{number, follows, next, is_dot, is_colon, Outcome, pure, refuse, given, ◌>>=◌}
-use Rattle.interim.specs.TimePart.{fraction, offset_seconds, written_offset, closing, closing_kind, after_minute, after_minute_kind, formal, informal, informal_close, informal_kind, open_hour, open_hour_kind, after_hour, after_hour_kind, whole_time, hour_or_end, hour_kind, kind_is_capital_t, some_time, time_part}
+use Rattle.interim.specs.TokenKinds.{Token, Kind, Number, Word, Dash, Slash, Colon, Dot, Comma, Plus, Unknown}
+use Rattle.interim.specs.ReadingSteps.{number, follows}
+use Rattle.interim.specs.NextTokens.{next, refuse, given}
+use Rattle.interim.specs.TokenTests.{is_dot, is_colon}
+use Rattle.interim.specs.Steps.{Outcome, pure, ◌>>=◌}
+use Rattle.interim.specs.TimeEnds.{fraction, offset_seconds, written_offset, closing, closing_kind}
+use Rattle.interim.specs.ClockTimes.{after_minute, after_minute_kind, formal, informal, informal_close, informal_kind}
+use Rattle.interim.specs.OpenHours.{open_hour, open_hour_kind, after_hour, after_hour_kind}
+use Rattle.interim.specs.TimePart.{whole_time, hour_or_end, hour_kind, kind_is_capital_t, some_time, time_part}
 use Rattle.interim.proofs.SoundSteps.{given_any_keeps, Kept, Holds, IfToken, Keeps, keeps_then, either_keeps, pure_keeps, number_keeps, follows_keeps, next_keeps}
 
 -- ---- numbers

@@ -2,14 +2,16 @@
 use Rattle.std.proofs.Common.{◌≡◌, ◌⊎◌, inl, inr, ℕ, ◌≤◌, Bool, true, false, ◌&&◌, Some, None, ℤ, ◌≤ℤ◌, leb, ltb, refl, sym, ap, subst, ◌∙◌, arith, int_le}
 use lib.Dec.{T}
 use Rattle.std.proofs.lemmas.Bool.{le-leb, lt-ltb, leb-true, ltb-true}
-use Rattle.civil.specs.Calendar.{days_in_month, day_of, IsDate, IsDay, IsDateOf}
+use Rattle.civil.specs.Calendar.{days_in_month, day_of}
+use Rattle.civil.specs.CivilDates.{IsDate, IsDay, IsDateOf}
 use Rattle.civil.specs.Clock.{IsClock, IsWallSecond, clock_second, wall_day}
 use Rattle.civil.proofs.SignedLemmas.{signed_arith}
 use Rattle.civil.proofs.CalendarLemmas.{in_calendar}
 use Rattle.civil.proofs.DateMoves.{IsMonthDay, date_inside}
 use Rattle.civil.proofs.WallParts.{wall_parts}
 use Rattle.interim.specs.Refusal.{Ends, is_within, within, civil_days, civil_seconds}
-use Rattle.interim.specs.Meaning.{is_date, is_clock, date_at, time_at, moment_at, IsDateOn}
+use Rattle.interim.specs.DatesAndTimes.{is_date, is_clock, date_at, time_at, IsDateOn}
+use Rattle.interim.specs.Meaning.{moment_at}
 
 -- ---- tests
 

@@ -3,7 +3,9 @@ use Rattle.std.proofs.Common.{◌≡◌, ℕ, zero, suc, ◌+◌, ◌-◌, ◌<�
 use Rattle.std.proofs.lemmas.List.{length-drop}
 use Rattle.interim.specs.declared.lexer.Front.{Front}
 use Rattle.interim.specs.Inside.Seen.{front_kind, tokens_left}
-use Rattle.interim.specs.Tokens.{Token, kind_of, more, skip, split_at, onward, tokens, tokens_of, is_blank}
+use Rattle.interim.specs.TokenKinds.{Token}
+use Rattle.interim.specs.Tokens.{kind_of, more, split_at, onward, tokens, tokens_of}
+use Rattle.interim.specs.Characters.{skip, is_blank}
 
 length-cond : (v : Bool) (xs : List ℕ) (b : ℕ) (bs : List ℕ) → length xs ≤ length bs → length (cond v xs (b ∷ bs)) ≤ length (b ∷ bs)
 length-cond true xs b bs h = omega arith

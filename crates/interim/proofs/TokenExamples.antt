@@ -1,6 +1,7 @@
 -- Phrases, with the tokens that the definitions cut them into.
 use Rattle.std.proofs.Common.{◌≡◌, List, [], ◌∷◌, ◌++◌, ℕ, codes, refl}
-use Rattle.interim.specs.Tokens.{Token, Kind, Number, Word, Dash, Slash, Colon, Dot, Comma, Plus, Unknown, more, kind_of, split_at, tokens, tokens_of, phrase_tokens}
+use Rattle.interim.specs.TokenKinds.{Token, Kind, Number, Word, Dash, Slash, Colon, Dot, Comma, Plus, Unknown}
+use Rattle.interim.specs.Tokens.{more, kind_of, split_at, tokens, tokens_of, phrase_tokens}
 
 abbrev token : Kind → ℕ → ℕ → Token
 token kind start end = record { kind = kind; span = record { start = start; end = end } }

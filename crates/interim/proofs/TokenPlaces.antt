@@ -4,8 +4,10 @@ use Rattle.std.proofs.Math.Nat.{mul-le-mul_right, pow-succ'}
 use Rattle.std.proofs.lemmas.Bool.Decides.{nat_tests}
 use Rattle.std.proofs.lemmas.List.{length-drop}
 use Rattle.std.proofs.lemmas.List.Sums.{take_while-cons}
-use Rattle.interim.specs.Tokens.{Token, Kind, Number, Word, more, skip, split_at, onward, tokens, kind_of, is_digit, is_letter, continues, is_ascii, decimal_from, run_len, mark}
-use Rattle.interim.specs.Laws.{AreInOrder, HasFewDigits, AllHaveFewDigits}
+use Rattle.interim.specs.TokenKinds.{Token, Kind, Number, Word}
+use Rattle.interim.specs.Tokens.{more, split_at, onward, tokens, kind_of, is_ascii, mark}
+use Rattle.interim.specs.Characters.{skip, is_digit, is_letter, continues, decimal_from, run_len}
+use Rattle.interim.specs.TokenLaws.{AreInOrder, HasFewDigits, AllHaveFewDigits}
 use Rattle.interim.proofs.Tail.{length-skip}
 
 -- behind the token at the front of a text of so many bytes

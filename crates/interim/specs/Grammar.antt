@@ -10,7 +10,7 @@ use Rattle.interim.specs.declared.types.DateSpec.TheVariants.{Absolute, Relative
 use Rattle.interim.specs.declared.types.TimeSpec.{TimeSpec}
 use Rattle.interim.specs.declared.types.DateTimeSpec.{DateTimeSpec}
 use Rattle.interim.specs.declared.time_part.ClockFront.TheVariants.{Nothing}
-use Rattle.interim.specs.Tokens.{Token}
+use Rattle.interim.specs.TokenKinds.{Token}
 use Rattle.interim.specs.Steps.{Outcome, Step, ◌>>=◌, pure}
 use Rattle.interim.specs.DatePart.{date_part}
 use Rattle.interim.specs.TimePart.{time_part}

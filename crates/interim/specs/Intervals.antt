@@ -1,4 +1,4 @@
--- Intervals, and their products.
+-- Intervals, and their products (docs/GRAMMAR.md, "Words").
 use Rattle.std.specs.Prelude.{ℤ, ◌*ℤ◌, FitsSigned}
 use Rattle.std.specs.Int.{w32}
 use Rattle.interim.specs.declared.types.Interval.{Interval}

@@ -1,4 +1,4 @@
--- The days, seconds and instants of `jiff`, and where it places a wall time.
+-- The days, seconds and instants of `jiff`, and where it places a wall time (docs/ARCHITECTURE.md, "Another backend of phrases").
 use Rattle.std.specs.Prelude.{◌≡◌, ℕ, ℤ, pos, negsuc, ◌+ℤ◌, ◌-ℤ◌, ◌*ℤ◌, Option, unsigned_abs}
 use Rattle.std.specs.Int.{int_div_euclid, int_rem_euclid}
 use Rattle.civil.specs.Shown.{Shows}

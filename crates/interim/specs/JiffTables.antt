@@ -1,4 +1,5 @@
--- Where a zone of `jiff` whose offsets stand in a table, with no rule behind it, places a wall second.
+-- Where a zone of `jiff` whose offsets stand in a table, with no rule behind it, places a wall second
+-- (docs/ARCHITECTURE.md, "Another backend of phrases").
 use Rattle.std.specs.Prelude.{◌≡◌, ◌⊎◌, ℕ, ◌<◌, ℤ, ◌+ℤ◌, ◌-ℤ◌, ◌≤ℤ◌, ◌<ℤ◌, None, vec_len}
 use Rattle.std.specs.Borrow.{Bor}
 use Rattle.civil.specs.Shown.{IsFirstShown, IsNeverShown}

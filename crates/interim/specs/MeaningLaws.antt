@@ -1,4 +1,4 @@
--- What holds of the meaning of a phrase's parts, in a zone that tells an offset at each second.
+-- What holds of the meaning of a phrase's parts, in a zone that tells an offset at each second (docs/GRAMMAR.md, "The meaning").
 use Rattle.std.specs.Prelude.{◌≡◌, ℕ, ℤ, pos, ◌+ℤ◌, ◌-ℤ◌, List, Option, Ok}
 use Rattle.civil.specs.Clock.{IsWallSecond}
 use Rattle.zoned.specs.Placing.{IsPlaced}

@@ -1,78 +1,15 @@
 -- The plain form of a phrase: a date in one of four shapes, perhaps a capital T, and a clock time in one of four shapes
 -- (docs/GRAMMAR.md, "The plain form").
-use Rattle.std.specs.Prelude.{◌≡◌, ℕ, ◌<◌, ℤ, Bool, List, [], ◌∷◌, ◌++◌, map, Option, Some, None, option_map, codes, if◌then◌else◌}
-use Rattle.civil.specs.Calendar.{IsDate, day_of, wall_second}
+use Rattle.std.specs.Prelude.{◌≡◌, ℕ, ◌<◌, ℤ, Bool, List, [], ◌∷◌, ◌++◌, Option, Some, codes, if◌then◌else◌}
+use Rattle.civil.specs.CivilDates.{IsDate}
+use Rattle.civil.specs.Calendar.{day_of, wall_second}
 use Rattle.interim.specs.declared.types.AbsDate.{AbsDate}
 use Rattle.interim.specs.declared.types.Dialect.{Dialect}
-use Rattle.interim.specs.declared.types.Dialect.TheVariants.{Uk, Us}
 use Rattle.interim.specs.declared.types.TimeSpec.{TimeSpec}
-use Rattle.interim.specs.Parts.{date_of, full_year, clock, shifted}
-use Rattle.interim.specs.Tokens.{Kind, Number, Word, Dash, Slash, Colon, Dot, Comma, Token, phrase_tokens}
-use Rattle.interim.specs.Words.{month_of, half_of}
-
--- the kinds of tokens
-abbrev pub kinds : List Token → List Kind
-kinds = map (λ (t : Token). t.kind)
-
--- ---- the date
-
--- the numbers and the word, in the order in which they are written
-pub data PlainDate : Type 0 where
-  Dashed : ℕ → ℕ → ℕ → PlainDate
-  Slashed : ℕ → ℕ → ℕ → PlainDate
-  DayFirst : ℕ → List ℕ → ℕ → PlainDate
-  MonthFirst : List ℕ → ℕ → ℕ → PlainDate
-
--- the tokens of a date
-abbrev pub spelled_date : PlainDate → List Kind
-spelled_date (Dashed year month day) = Number year ∷ Dash ∷ Number month ∷ Dash ∷ Number day ∷ []
-spelled_date (Slashed first second year) = Number first ∷ Slash ∷ Number second ∷ Slash ∷ Number year ∷ []
-spelled_date (DayFirst day name year) = Number day ∷ Word name ∷ Number year ∷ []
-spelled_date (MonthFirst name day year) = Word name ∷ Number day ∷ Comma ∷ Number year ∷ []
-
--- the date that it names, if its word is a month
-abbrev pub date_named : Dialect → PlainDate → Option AbsDate
-date_named dialect (Dashed year month day) = Some (date_of year month day)
-date_named Uk (Slashed day month year) = Some (date_of (full_year year) month day)
-date_named Us (Slashed month day year) = Some (date_of (full_year year) month day)
-date_named dialect (DayFirst day name year) = option_map (λ month. date_of year month day) (month_of name)
-date_named dialect (MonthFirst name day year) = option_map (λ month. date_of year month day) (month_of name)
-
--- ---- the time
-
--- a clock time in one of four shapes: with a colon, with seconds, with a dot, or the hour alone
-pub data PlainTime : Type 0 where
-  Minutes : ℕ → ℕ → PlainTime
-  Seconds : ℕ → ℕ → ℕ → PlainTime
-  Dotted : ℕ → ℕ → PlainTime
-  Lone : ℕ → PlainTime
-
--- the tokens of a clock time
-abbrev pub spelled_time : PlainTime → List Kind
-spelled_time (Minutes hour minute) = Number hour ∷ Colon ∷ Number minute ∷ []
-spelled_time (Seconds hour minute second) = Number hour ∷ Colon ∷ Number minute ∷ Colon ∷ Number second ∷ []
-spelled_time (Dotted hour minute) = Number hour ∷ Dot ∷ Number minute ∷ []
-spelled_time (Lone hour) = Number hour ∷ []
-
--- perhaps a word behind it
-abbrev pub spelled_half : Option (List ℕ) → List Kind
-spelled_half None = []
-spelled_half (Some name) = Word name ∷ []
-
--- the hour, which a word am or pm may shift
-abbrev pub hour_named : ℕ → Option (List ℕ) → Option ℕ
-hour_named hour None = Some hour
-hour_named hour (Some name) = option_map (λ half. shifted half hour) (half_of name)
-
--- the clock time that it names, if a word behind it is am or pm, which a lone hour needs
-abbrev pub time_named : PlainTime → Option (List ℕ) → Option TimeSpec
-time_named (Minutes hour minute) half = option_map (λ h. clock h minute 0 0) (hour_named hour half)
-time_named (Seconds hour minute second) half = option_map (λ h. clock h minute second 0) (hour_named hour half)
-time_named (Dotted hour minute) half = option_map (λ h. clock h minute 0 0) (hour_named hour half)
-time_named (Lone hour) None = None
-time_named (Lone hour) (Some name) = option_map (λ h. clock h 0 0 0) (hour_named hour (Some name))
-
--- ---- the phrase
+use Rattle.interim.specs.TokenKinds.{Kind, Word}
+use Rattle.interim.specs.Tokens.{phrase_tokens}
+use Rattle.interim.specs.PlainDates.{kinds, PlainDate, spelled_date, date_named}
+use Rattle.interim.specs.PlainTimes.{PlainTime, spelled_time, spelled_half, time_named}
 
 -- a date, perhaps a T, a clock time, and perhaps am or pm
 pub record PlainPhrase : Type 0 where

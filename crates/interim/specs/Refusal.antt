@@ -1,4 +1,4 @@
--- What calls over a backend answer: a value, a refusal, or want of memory.
+-- What calls over a backend answer: a value, a refusal, or want of memory (docs/GRAMMAR.md, "Faults").
 use Rattle.std.specs.Prelude.{◌≡◌, Bool, ◌&&◌, IsTrue, Option, Some, None, Result, Ok, Err, ℤ, pos, negsuc, int_le, if◌then◌else◌}
 use Rattle.interim.specs.declared.errors.DateError.{DateError}
 use Rattle.interim.specs.declared.errors.DateError.TheVariants as errors

@@ -3,7 +3,8 @@ ghost use Rattle.interim.specs.DatePart as spec;
 ghost use Rattle.interim.specs.Intervals.{count_of, scaled};
 ghost use Rattle.interim.specs.Parts.{full_year as year_meant};
 ghost use Rattle.interim.specs.Inside.Seen.{seen};
-ghost use Rattle.interim.specs.Steps.{Reads, next_token, after_token};
+ghost use Rattle.interim.specs.ReadingSteps.{Reads};
+ghost use Rattle.interim.specs.NextTokens.{next_token, after_token};
 
 use crate::errors::{DateError, DateResult, Expected};
 use crate::lexer::{Kind, Lexer, Token};
@@ -68,7 +69,7 @@ fn direction_in(opening: Opening) -> Direction
 }
 
 // A month at the head, and what may follow it: a day, a comma and a year.
-#[tactic(auto, unfolding(crate::specs::DatePart::month_head))]
+#[tactic(auto, unfolding(crate::specs::WordHeads::month_head))]
 fn month_head(tokens: &mut Lexer<'_>, month: u32, direction: Direction) -> DateResult<DatePart>
     ensures { Reads (spec.month_head month direction tokens.old) result tokens.new }
 {
@@ -105,7 +106,7 @@ fn directed_count(direction: Direction) -> i32
 }
 
 // A word at the head: a month, a day of the week or a unit.
-#[tactic(auto, unfolding(crate::specs::DatePart::word_head))]
+#[tactic(auto, unfolding(crate::specs::WordHeads::word_head))]
 fn word_head(
     tokens: &mut Lexer<'_>,
     direction: Direction,
@@ -139,7 +140,7 @@ fn number_alone(opening: Opening, n: u16) -> DateResult<DatePart>
 }
 
 // A year with dashes, behind the first of them.
-#[tactic(auto, unfolding(crate::specs::DatePart::dashed))]
+#[tactic(auto, unfolding(crate::specs::NumberedDates::dashed))]
 fn dashed(tokens: &mut Lexer<'_>, year: u16) -> DateResult<DatePart>
     ensures { Reads (spec.dashed year tokens.old) result tokens.new }
 {
@@ -161,7 +162,7 @@ fn full_year(year: u16) -> u16
 }
 
 // Day and month, or month and day, with slashes, behind the first of them.
-#[tactic(auto, unfolding(crate::specs::DatePart::slashed))]
+#[tactic(auto, unfolding(crate::specs::NumberedDates::slashed))]
 fn slashed(
     tokens: &mut Lexer<'_>,
     dialect: Dialect,
@@ -184,7 +185,7 @@ fn slashed(
 }
 
 // A day and a month, and what may follow them: a year.
-#[tactic(auto, unfolding(crate::specs::DatePart::day_month))]
+#[tactic(auto, unfolding(crate::specs::CountedDates::day_month))]
 fn day_month(
     tokens: &mut Lexer<'_>,
     day: u16,
@@ -201,7 +202,7 @@ fn day_month(
 }
 
 // A number of units, and what may follow it: `ago`, or an hour.
-#[tactic(auto, unfolding(crate::specs::DatePart::units_on))]
+#[tactic(auto, unfolding(crate::specs::CountedDates::units_on))]
 fn units_on(tokens: &mut Lexer<'_>, unit: Interval, n: u16) -> DateResult<DatePart>
     requires { unsigned_abs (count_of unit) ≤ 3600 }
     ensures { Reads (spec.units_on unit n tokens.old) result tokens.new }
@@ -246,7 +247,7 @@ fn units(tokens: &mut Lexer<'_>, opening: Opening, unit: Interval, n: u16) -> Da
 }
 
 // A word behind a number: a month, a unit, am or pm.
-#[tactic(auto, unfolding(crate::specs::DatePart::number_then_word))]
+#[tactic(auto, unfolding(crate::specs::NumberHeads::number_then_word))]
 fn number_then_word(
     tokens: &mut Lexer<'_>,
     opening: Opening,
@@ -270,7 +271,7 @@ fn number_then_word(
 }
 
 // A number at the head, by the token behind it.
-#[tactic(auto, unfolding(crate::specs::DatePart::number_head))]
+#[tactic(auto, unfolding(crate::specs::NumberHeads::number_head))]
 fn number_head(
     tokens: &mut Lexer<'_>,
     dialect: Dialect,

@@ -4,7 +4,10 @@ ghost use Rattle.std.specs.Ordering.{int_cmp};
 ghost use Rattle.civil.specs.Calendar.{weekday_of};
 ghost use Rattle.civil.specs.Months.{months_on};
 ghost use Rattle.interim.specs.Refusal.{Gives, Answers, Ends, is_within, within};
-ghost use Rattle.interim.specs.Meaning.{Wall, IsDateOn, IsWallAt, Lands, aim, date_at, time_at, time_cmp, with_micros, moment_at};
+ghost use Rattle.interim.specs.Walls.{Wall};
+ghost use Rattle.interim.specs.DatesAndTimes.{IsDateOn, date_at, time_at, time_cmp, with_micros};
+ghost use Rattle.interim.specs.Meaning.{IsWallAt, Lands, moment_at};
+ghost use Rattle.interim.specs.Aims.{aim};
 
 /// Why a date or a moment is refused.
 #[derive(Clone, Copy, PartialEq, Eq, Debug)]

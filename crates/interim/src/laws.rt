@@ -3,7 +3,9 @@ ghost use Rattle.std.specs.Prelude.{◌≡◌, false};
 ghost use Rattle.interim.specs.Jiff.{KeepsAnOffset, OneMeaningOverJiff};
 ghost use Rattle.interim.specs.JiffTables.{TablesPlace};
 ghost use Rattle.interim.specs.MeaningLaws.{OneMeaning, PlainFormsAreInside, PlainFormsMean, SomeMeaning, SoundMeaning};
-ghost use Rattle.interim.specs.Laws.{TokensAreSound, PartsAreSound, TimesAreSound, PlainFormsAreRead};
+ghost use Rattle.interim.specs.TokenLaws.{TokensAreSound};
+ghost use Rattle.interim.specs.PartLaws.{PartsAreSound, TimesAreSound};
+ghost use Rattle.interim.specs.PlainFormLaws.{PlainFormsAreRead};
 
 use crate::datetime::{Date, DateTime, Time};
 use civil::{NaiveDate, NaiveTime};

@@ -1,7 +1,10 @@
 ghost use Rattle.std.specs.Prelude.{◌≡◌, ℕ, IsTrue, List, ◌∷◌, ◌<◌, ◌≤◌, [], length, take, min, Ok, Some, IfNone, if◌then◌else◌};
-ghost use Rattle.interim.specs.Tokens.{is_blank, is_digit, is_letter, continues, run_len, skip, decimal_from, mark, more, kind_of, tokens_of};
+ghost use Rattle.interim.specs.Characters.{is_blank, is_digit, is_letter, continues, run_len, skip, decimal_from};
+ghost use Rattle.interim.specs.Tokens.{mark, more, kind_of, tokens_of};
 ghost use Rattle.interim.specs.Inside.Seen.{front_kind, seen_kind_option, seen_option, tokens_left};
-ghost use Rattle.interim.specs.Steps as step;
+ghost use Rattle.interim.specs.NextTokens as ahead;
+ghost use Rattle.interim.specs.ReadingSteps as step;
+ghost use Rattle.interim.specs.TokenTests as test;
 ghost use Rattle.interim.specs.TimePart.{kind_is_capital_t};
 
 use crate::errors::{DateError, DateResult, Expected, Span};
@@ -163,7 +166,7 @@ pub struct Lexer<'a> {
 
 impl<'a> Model for Lexer<'a> {
     ghost use Rattle.std.specs.Prelude.{List, length, ◌≤◌};
-    ghost use Rattle.interim.specs.Tokens.{Token};
+    ghost use Rattle.interim.specs.TokenKinds.{Token};
     ghost use Rattle.interim.specs.Inside.Seen.{IsPlace, tokens_left};
 
     ghost Value = { List Token };
@@ -191,7 +194,7 @@ impl<'a> Lexer<'a> {
     /// The next token, which stays.
     #[inline(always)]
     pub fn peek(&self) -> Option<Token<'a>>
-        ensures token { seen_option result ≡ step.next_token self.now }
+        ensures token { seen_option result ≡ ahead.next_token self.now }
         ensures end { IfNone result (self.now ≡ []) }
     {
         let kind = match self.front {
@@ -215,7 +218,7 @@ impl<'a> Lexer<'a> {
     /// Goes past the next token, if one is left.
     #[inline(never)]
     pub fn advance(&mut self)
-        ensures { self.new ≡ step.after_token self.old }
+        ensures { self.new ≡ ahead.after_token self.old }
     {
         if matches!(self.front, Front::End) {
             return;
@@ -228,7 +231,7 @@ impl<'a> Lexer<'a> {
 
     /// The fault where another text is expected in place of the next token, or of the end.
     pub fn fault(&self, expected: Expected) -> DateError
-        ensures { result ≡ step.fault_at expected (step.next_token self.now) }
+        ensures { result ≡ ahead.fault_at expected (ahead.next_token self.now) }
     {
         match self.peek() {
             Some(token) => DateError::ExpectedToken(expected, token.span),
@@ -238,7 +241,7 @@ impl<'a> Lexer<'a> {
 
     // What the next token is.
     fn next_kind(&self) -> Option<Kind<'a>>
-        ensures { seen_kind_option result ≡ step.next_kind self.now }
+        ensures { seen_kind_option result ≡ ahead.next_kind self.now }
     {
         let token = self.peek()?;
         Some(token.kind)
@@ -247,7 +250,7 @@ impl<'a> Lexer<'a> {
     // Takes the next token where it is the one that is looked for.
     fn take_if(&mut self, is_there: bool) -> bool
         ensures same { result ≡ is_there }
-        ensures left { self.new ≡ if is_there then step.after_token self.old else self.old }
+        ensures left { self.new ≡ if is_there then ahead.after_token self.old else self.old }
     {
         if is_there {
             self.advance();
@@ -256,7 +259,7 @@ impl<'a> Lexer<'a> {
     }
 
     /// Takes the number that is needed.
-    #[tactic(auto, unfolding(crate::specs::Steps::number))]
+    #[tactic(auto, unfolding(crate::specs::ReadingSteps::number))]
     pub fn number(&mut self) -> DateResult<u16>
         ensures { step.Reads (step.number self.old) result self.new }
     {
@@ -270,7 +273,7 @@ impl<'a> Lexer<'a> {
     }
 
     /// Takes the dash that is needed.
-    #[tactic(auto, unfolding(crate::specs::Steps::dash))]
+    #[tactic(auto, unfolding(crate::specs::ReadingSteps::dash))]
     pub fn dash(&mut self) -> DateResult<()>
         ensures { step.Reads (step.dash self.old) result self.new }
     {
@@ -284,7 +287,7 @@ impl<'a> Lexer<'a> {
     }
 
     /// Takes the number that follows, if one does.
-    #[tactic(auto, unfolding(crate::specs::Steps::following_number))]
+    #[tactic(auto, unfolding(crate::specs::ReadingSteps::following_number))]
     pub fn following_number(&mut self) -> Option<u16>
         ensures { step.following_number self.old ≡ Ok (result, self.new) }
     {
@@ -296,43 +299,43 @@ impl<'a> Lexer<'a> {
     }
 
     /// Takes the slash that follows; whether one did.
-    #[tactic(auto, unfolding(crate::specs::Steps::follows))]
+    #[tactic(auto, unfolding(crate::specs::ReadingSteps::follows))]
     pub fn follows_slash(&mut self) -> bool
-        ensures { step.follows step.is_slash self.old ≡ Ok (result, self.new) }
+        ensures { step.follows test.is_slash self.old ≡ Ok (result, self.new) }
     {
         let is_there = matches!(self.next_kind(), Some(Kind::Slash));
         self.take_if(is_there)
     }
 
     /// Takes the colon that follows; whether one did.
-    #[tactic(auto, unfolding(crate::specs::Steps::follows))]
+    #[tactic(auto, unfolding(crate::specs::ReadingSteps::follows))]
     pub fn follows_colon(&mut self) -> bool
-        ensures { step.follows step.is_colon self.old ≡ Ok (result, self.new) }
+        ensures { step.follows test.is_colon self.old ≡ Ok (result, self.new) }
     {
         let is_there = matches!(self.next_kind(), Some(Kind::Colon));
         self.take_if(is_there)
     }
 
     /// Takes the dot that follows; whether one did.
-    #[tactic(auto, unfolding(crate::specs::Steps::follows))]
+    #[tactic(auto, unfolding(crate::specs::ReadingSteps::follows))]
     pub fn follows_dot(&mut self) -> bool
-        ensures { step.follows step.is_dot self.old ≡ Ok (result, self.new) }
+        ensures { step.follows test.is_dot self.old ≡ Ok (result, self.new) }
     {
         let is_there = matches!(self.next_kind(), Some(Kind::Dot));
         self.take_if(is_there)
     }
 
     /// Takes the comma that follows; whether one did.
-    #[tactic(auto, unfolding(crate::specs::Steps::follows))]
+    #[tactic(auto, unfolding(crate::specs::ReadingSteps::follows))]
     pub fn follows_comma(&mut self) -> bool
-        ensures { step.follows step.is_comma self.old ≡ Ok (result, self.new) }
+        ensures { step.follows test.is_comma self.old ≡ Ok (result, self.new) }
     {
         let is_there = matches!(self.next_kind(), Some(Kind::Comma));
         self.take_if(is_there)
     }
 
     /// Takes the capital T that follows; whether one did.
-    #[tactic(auto, unfolding(crate::specs::Steps::follows))]
+    #[tactic(auto, unfolding(crate::specs::ReadingSteps::follows))]
     pub fn follows_capital_t(&mut self) -> bool
         ensures { step.follows kind_is_capital_t self.old ≡ Ok (result, self.new) }
     {
@@ -344,7 +347,7 @@ impl<'a> Lexer<'a> {
     }
 
     /// Passes over a token that no rule names.
-    #[tactic(auto, unfolding(crate::specs::Steps::pass_over))]
+    #[tactic(auto, unfolding(crate::specs::ReadingSteps::pass_over))]
     pub fn pass_over(&mut self)
         ensures { step.pass_over self.old ≡ Ok (tt, self.new) }
     {

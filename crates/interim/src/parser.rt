@@ -18,7 +18,7 @@ pub struct DateParser<'a> {
 
 impl<'a> Model for DateParser<'a> {
     ghost use Rattle.std.specs.Prelude.{List};
-    ghost use Rattle.interim.specs.Tokens.{Token};
+    ghost use Rattle.interim.specs.TokenKinds.{Token};
 
     ghost Value = { List Token };
 

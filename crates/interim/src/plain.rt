@@ -1,8 +1,8 @@
 //! Phrases of three plain shapes, of which no token is made.
 ghost use Rattle.std.specs.Prelude.{◌≡◌, ◌<◌, [], ◌∷◌, Some, None, IsTrue, IfSome};
 ghost use Rattle.interim.specs.Inside.ReadAs.{IsReadAs, half_text};
-ghost use Rattle.interim.specs.Laws.{IsReadAsNamed};
-ghost use Rattle.interim.specs.Tokens.{is_digit, decimal_from};
+ghost use Rattle.interim.specs.PlainFormLaws.{IsReadAsNamed};
+ghost use Rattle.interim.specs.Characters.{is_digit, decimal_from};
 
 use crate::date_part::times;
 use crate::lexer::{letters, number};

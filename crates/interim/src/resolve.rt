@@ -5,7 +5,12 @@ ghost use Rattle.std.specs.Ordering.{is_eq};
 ghost use Rattle.interim.specs.Grammar.{parts_of};
 ghost use Rattle.interim.specs.Tokens.{phrase_tokens};
 ghost use Rattle.interim.specs.Refusal.{Gives, Answers, AnswersPhrase, refusal_of, within};
-ghost use Rattle.interim.specs.Meaning.{Aim, Wall, IsDateOn, IsNamed, IsFromWall, LeadsTo, Lands, Means, clock_on, clock_or, clock_time, date_at, deciding_time, midnight, month_day, own_weekday, sought, step_by, week_day, weeks_more, weeks_on};
+ghost use Rattle.interim.specs.Aims.{Aim, clock_on, clock_or, clock_time, midnight};
+ghost use Rattle.interim.specs.Walls.{Wall, month_day, sought, step_by};
+ghost use Rattle.interim.specs.DatesAndTimes.{IsDateOn, date_at};
+ghost use Rattle.interim.specs.NamedDates.{IsNamed, deciding_time, own_weekday, week_day, weeks_more, weeks_on};
+ghost use Rattle.interim.specs.PartMeanings.{IsFromWall, LeadsTo};
+ghost use Rattle.interim.specs.Meaning.{Lands, Means};
 
 use crate::datetime::{Date, DateTime, Refused, Time};
 use crate::errors::{DateError, DateResult};

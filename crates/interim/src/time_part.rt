@@ -1,6 +1,7 @@
 ghost use Rattle.std.specs.Prelude.{◌≡◌};
 ghost use Rattle.interim.specs.Parts.{clock, shifted as shifted_hour};
-ghost use Rattle.interim.specs.Steps.{Reads, next_token, after_token};
+ghost use Rattle.interim.specs.ReadingSteps.{Reads};
+ghost use Rattle.interim.specs.NextTokens.{next_token, after_token};
 ghost use Rattle.interim.specs.TimePart as spec;
 
 use crate::errors::{DateError, DateResult, Expected};
@@ -35,7 +36,7 @@ pub fn shifted(half: Half, hour: u16) -> u32
 }
 
 // Microseconds behind a second.
-#[tactic(auto, unfolding(crate::specs::TimePart::fraction))]
+#[tactic(auto, unfolding(crate::specs::TimeEnds::fraction))]
 fn fraction(tokens: &mut Lexer<'_>) -> DateResult<u32>
     ensures { Reads (spec.fraction tokens.old) result tokens.new }
 {
@@ -54,7 +55,7 @@ fn offset_seconds(is_west: bool, hours: u16, minutes: u16) -> i64
 }
 
 // An offset behind its sign.
-#[tactic(auto, unfolding(crate::specs::TimePart::written_offset))]
+#[tactic(auto, unfolding(crate::specs::TimeEnds::written_offset))]
 fn written_offset(tokens: &mut Lexer<'_>, is_west: bool) -> DateResult<i64>
     ensures { Reads (spec.written_offset is_west tokens.old) result tokens.new }
 {
@@ -67,7 +68,7 @@ fn written_offset(tokens: &mut Lexer<'_>, is_west: bool) -> DateResult<i64>
 }
 
 // What closes a formal time, whose numbers have been read.
-#[tactic(auto, unfolding(crate::specs::TimePart::closing))]
+#[tactic(auto, unfolding(crate::specs::TimeEnds::closing))]
 fn closing(
     tokens: &mut Lexer<'_>,
     hour: u16,
@@ -98,7 +99,7 @@ fn closing(
 }
 
 // What follows the minute of a formal time.
-#[tactic(auto, unfolding(crate::specs::TimePart::after_minute))]
+#[tactic(auto, unfolding(crate::specs::ClockTimes::after_minute))]
 fn after_minute(tokens: &mut Lexer<'_>, hour: u16, min: u16) -> DateResult<TimeSpec>
     ensures { Reads (spec.after_minute hour min (next_token tokens.old) (after_token tokens.old))
         result tokens.new }
@@ -119,7 +120,7 @@ fn after_minute(tokens: &mut Lexer<'_>, hour: u16, min: u16) -> DateResult<TimeS
 }
 
 // A time behind its hour and a colon.
-#[tactic(auto, unfolding(crate::specs::TimePart::formal))]
+#[tactic(auto, unfolding(crate::specs::ClockTimes::formal))]
 fn formal(tokens: &mut Lexer<'_>, hour: u16) -> DateResult<TimeSpec>
     ensures { Reads (spec.formal hour tokens.old) result tokens.new }
 {
@@ -128,7 +129,7 @@ fn formal(tokens: &mut Lexer<'_>, hour: u16) -> DateResult<TimeSpec>
 }
 
 // A time behind its hour and a dot.
-#[tactic(auto, unfolding(crate::specs::TimePart::informal, crate::specs::TimePart::informal_close))]
+#[tactic(auto, unfolding(crate::specs::ClockTimes::informal, crate::specs::ClockTimes::informal_close))]
 fn informal(tokens: &mut Lexer<'_>, hour: u16) -> DateResult<TimeSpec>
     ensures { Reads (spec.informal hour tokens.old) result tokens.new }
 {
@@ -146,7 +147,7 @@ fn informal(tokens: &mut Lexer<'_>, hour: u16) -> DateResult<TimeSpec>
 }
 
 // A time behind an hour that wants a colon or a dot.
-#[tactic(auto, unfolding(crate::specs::TimePart::open_hour))]
+#[tactic(auto, unfolding(crate::specs::OpenHours::open_hour))]
 fn open_hour(tokens: &mut Lexer<'_>, hour: u16) -> DateResult<TimeSpec>
     ensures { Reads (spec.open_hour hour (next_token tokens.old) (after_token tokens.old))
         result tokens.new }
@@ -163,7 +164,7 @@ fn open_hour(tokens: &mut Lexer<'_>, hour: u16) -> DateResult<TimeSpec>
 }
 
 // A time behind the hour of a time part.
-#[tactic(auto, unfolding(crate::specs::TimePart::after_hour))]
+#[tactic(auto, unfolding(crate::specs::OpenHours::after_hour))]
 fn after_hour(tokens: &mut Lexer<'_>, hour: u16) -> DateResult<TimeSpec>
     ensures { Reads (spec.after_hour hour (next_token tokens.old) (after_token tokens.old))
         result tokens.new }

@@ -1,6 +1,6 @@
 //! Phrases over the dates, times and moments of `civil` and `zoned`.
 ghost use Rattle.std.specs.Prelude.{◌≡◌, ◌↔◌, ℕ, ℤ, IsSome, IfSome};
-ghost use Rattle.civil.specs.Calendar.{IsDay, IsDateOf};
+ghost use Rattle.civil.specs.CivilDates.{IsDay, IsDateOf};
 ghost use Rattle.civil.specs.Months.{months_on};
 
 use crate::datetime::{Date, DateTime, Refused, Time};

@@ -6,9 +6,15 @@ use Rattle.std.proofs.lemmas.List.{get_or_at}
 use Rattle.resb_tree.specs.declared.resource.Resource.{Resource}
 use Rattle.resb_tree.specs.Keys.{stands_in}
 use Rattle.resb_tree.specs.Weight.{weight}
-use Rattle.resb_tree.specs.Tree.{Body, body, tree_at, denoted}
+use Rattle.resb_tree.specs.Bodies.{Body, body}
+use Rattle.resb_tree.specs.Tree.{tree_at, denoted}
 use Rattle.resb_tree.specs.Header.{body_of, tree_of}
-use Rattle.resb.specs.Writing.{keys_met, key_pool, pool_bytes, pack_bytes, key_place, laid, most_of, most_entries, header, written_body, written, all_keys, has_bad_key, places_of, is_too_large}
+use Rattle.resb.specs.TreeKeys.{keys_met, key_pool, pool_bytes, key_place}
+use Rattle.resb.specs.Packing.{pack_bytes}
+use Rattle.resb.specs.LaidTrees.{laid}
+use Rattle.resb.specs.WrittenFiles.{most_of, most_entries, header, written_body, written}
+use Rattle.resb.specs.BadKeys.{all_keys, has_bad_key}
+use Rattle.resb.specs.Writing.{places_of, is_too_large}
 use Rattle.resb.specs.Laws.{has_typed_parts}
 use Rattle.resb.proofs.PackedWords.{StandIn, stand_front, stand_back, bytes_stand, length-pack_bytes}
 use Rattle.resb.proofs.PoolReads.{met_in_pool, pool_keys, pool_below, pool_read, place_low, Each, each_met, Placed}

@@ -8,8 +8,11 @@ use Rattle.resb_tree.specs.declared.resource.Resource.TheVariants as r
 use Rattle.resb_tree.specs.declared.resource.Resource.TheVariants.{rolls-Integer, rolls-Text, rolls-Bytes, rolls-Integers, rolls-Array, rolls-Table}
 use Rattle.resb_tree.specs.Keys.{distinct, keys_in}
 use Rattle.resb_tree.specs.Weight.{layer_weight, weight, weights, entry_weights, sum_of, entries_sum}
-use Rattle.resb.specs.Plan.{values_in, told_values}
-use Rattle.resb.specs.Writing.{layer_keys, keys_met, entry_keys, item_keys, layer_most, most_entries, most_of, layer_bad, has_bad_key, any_bad, all_keys, layer_depth, depth, layer_wide, has_wide_integer}
+use Rattle.resb.specs.KeyPlan.{values_in, told_values}
+use Rattle.resb.specs.TreeKeys.{layer_keys, keys_met, entry_keys, item_keys}
+use Rattle.resb.specs.WrittenFiles.{layer_most, most_entries, most_of}
+use Rattle.resb.specs.BadKeys.{layer_bad, has_bad_key, any_bad, all_keys}
+use Rattle.resb.specs.Writing.{layer_depth, depth, layer_wide, has_wide_integer}
 
 pub fold-Text : {A : Type 0} (step : Resource-F A → A) (v : List ℕ) → fold-Resource A step (r.Text v) ≡ step (Resource-F.Text v)
 fold-Text {A} step v = ap (fold-Resource A step) (sym (rolls-Text v)) ∙ fold-roll-Resource A step (Resource-F.Text v)

@@ -5,10 +5,13 @@ use Rattle.std.proofs.lemmas.Bool.{and_parts, and_from, or_parts, not-false}
 use Rattle.resb_tree.specs.declared.resource.Resource.{Resource}
 use Rattle.resb_tree.specs.declared.resource.Resource.TheVariants as r
 use Rattle.resb_tree.specs.Keys.{keys_in}
-use Rattle.resb.specs.Writing.{entry_keys, item_keys, keys_met, most_of, all_keys, any_bad, has_bad_key, depth}
+use Rattle.resb.specs.TreeKeys.{entry_keys, item_keys, keys_met}
+use Rattle.resb.specs.WrittenFiles.{most_of}
+use Rattle.resb.specs.BadKeys.{all_keys, any_bad, has_bad_key}
+use Rattle.resb.specs.Writing.{depth}
 use Rattle.resb.proofs.Cases.{by_variant}
 use Rattle.resb.proofs.Folds.{keys_met-Text, keys_met-Bytes, keys_met-Table, keys_met-Integer, keys_met-Array, keys_met-Integers, bad-Table, bad-Array, depth-Table, depth-Array}
-use Rattle.resb.specs.Plan.{values_in}
+use Rattle.resb.specs.KeyPlan.{values_in}
 use Rattle.resb.proofs.Trees.{deep}
 
 all_append : (xs ys : List (List ℕ)) → all_keys xs ≡ true → all_keys ys ≡ true → all_keys (xs ++ ys) ≡ true

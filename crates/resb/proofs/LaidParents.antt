@@ -6,8 +6,10 @@ use Rattle.resb_tree.specs.declared.error.ResbError.TheVariants.{Memory}
 use Rattle.resb_tree.specs.declared.resource.Resource.{Resource}
 use Rattle.resb_tree.specs.declared.resource.Resource.TheVariants as r
 use Rattle.resb_tree.specs.Keys.{keys_in}
-use Rattle.resb.specs.Plan.{values_in, most_words, Fits}
-use Rattle.resb.specs.Writing.{most_of, pack_units}
+use Rattle.resb.specs.KeyPlan.{values_in}
+use Rattle.resb.specs.Plan.{most_words, Fits}
+use Rattle.resb.specs.WrittenFiles.{most_of}
+use Rattle.resb.specs.Packing.{pack_units}
 use Rattle.resb.specs.Inside.Laying.{IsLaid, Lays, Stands}
 use Rattle.resb.proofs.LaidWords.{array_none, table_none, fits-count, no_array_fits, no_table_fits}
 use Rattle.resb.proofs.LaidSteps.{length-lay_all, length-values, array_words, array_item, array_full, array_fits_behind, table_laid_words, table_item, table_full, table_fits_behind}

@@ -7,8 +7,11 @@ use Rattle.std.specs.Prelude.{map, nat_le}
 use Rattle.resb_tree.specs.declared.resource.Resource.{Resource}
 use Rattle.resb_tree.specs.declared.resource.Resource.TheVariants as r
 use Rattle.resb_tree.specs.Keys.{keys_in}
-use Rattle.resb.specs.Plan.{values_in, most_words, Fits, FitsAll}
-use Rattle.resb.specs.Writing.{laid, lay_all, most_of, pack_units}
+use Rattle.resb.specs.KeyPlan.{values_in}
+use Rattle.resb.specs.Plan.{most_words, Fits, FitsAll}
+use Rattle.resb.specs.LaidTrees.{laid, lay_all}
+use Rattle.resb.specs.WrittenFiles.{most_of}
+use Rattle.resb.specs.Packing.{pack_units}
 use Rattle.resb.proofs.LaidWords.{array_some, table_some, room-array, room-table, array_fits, table_fits, length-pack_units}
 
 pub no_room : (b : Bool) (n : ℕ) → b ≡ nat_le n most_words → b ≡ false → most_words < n

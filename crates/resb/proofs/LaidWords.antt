@@ -8,8 +8,14 @@ use Rattle.resb_tree.specs.declared.error.ResbError.TheVariants.{Memory, NoTree,
 use Rattle.resb_tree.specs.declared.resource.Resource.{Resource}
 use Rattle.resb_tree.specs.declared.resource.Resource.TheVariants as r
 use Rattle.resb_tree.specs.Keys.{keys_in}
-use Rattle.resb.specs.Plan.{values_in, told_values, no_places, most_words, Fits, FitsAll, Refuses}
-use Rattle.resb.specs.Writing.{Laid, laid, layer_laid, lay_all, array_laid, table_laid, text_laid, bytes_laid, integers_laid, item, pack_units, pack_bytes, most_of, keys_met, item_keys, entry_keys, has_wide_integer, any_bad}
+use Rattle.resb.specs.KeyPlan.{values_in, told_values, no_places}
+use Rattle.resb.specs.Plan.{most_words, Fits, FitsAll, Refuses}
+use Rattle.resb.specs.LaidTrees.{Laid, laid, layer_laid, lay_all, array_laid, table_laid, text_laid, bytes_laid, integers_laid, item}
+use Rattle.resb.specs.Packing.{pack_units, pack_bytes}
+use Rattle.resb.specs.WrittenFiles.{most_of}
+use Rattle.resb.specs.TreeKeys.{keys_met, item_keys, entry_keys}
+use Rattle.resb.specs.Writing.{has_wide_integer}
+use Rattle.resb.specs.BadKeys.{any_bad}
 use Rattle.resb.proofs.Folds.{fold-Text, fold-Bytes, fold-Integers, fold-Integer, fold-Array, fold-Table, told-values, length-told, keys_met-Text, keys_met-Bytes, keys_met-Integers, keys_met-Integer, keys_met-Array, keys_met-Table, most_entries-Text, most_entries-Bytes, most_entries-Integers, most_entries-Integer, most_entries-Array, most_entries-Table, wide-Text, wide-Bytes, wide-Integers, wide-Integer, wide-Array, wide-Table}
 
 -- ---- leaves

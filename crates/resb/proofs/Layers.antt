@@ -4,8 +4,8 @@ use Rattle.std.specs.Prelude.{map}
 use Rattle.resb_tree.specs.declared.resource.Resource.{Resource}
 use Rattle.resb_tree.specs.declared.resource.Resource.TheVariants as r
 use Rattle.resb_tree.specs.declared.resource.Resource.TheVariants.{rolls-Integer, rolls-Text, rolls-Bytes, rolls-Integers, rolls-Array, rolls-Table}
-use Rattle.resb.specs.Writing.{item, text_laid, bytes_laid, integers_laid, array_laid, table_laid, layer_laid, laid}
-use Rattle.resb.specs.Plan.{values_in}
+use Rattle.resb.specs.LaidTrees.{item, text_laid, bytes_laid, integers_laid, array_laid, table_laid, layer_laid, laid}
+use Rattle.resb.specs.KeyPlan.{values_in}
 use Rattle.resb.proofs.Folds.{told-values, fold-Text, fold-Bytes, fold-Integers, fold-Integer, fold-Array, fold-Table}
 use Rattle.resb.specs.Laws.{all_below, all_true, layer_typed, has_typed_parts}
 

@@ -2,7 +2,9 @@
 use Rattle.std.proofs.Common.{◌≡◌, ℕ, List, [], ◌∷◌, refl}
 use Rattle.resb_tree.specs.declared.resource.Resource.{Resource}
 use Rattle.resb_tree.specs.declared.resource.Resource.TheVariants as r
-use Rattle.resb.specs.Writing.{keys_met, most_entries, laid, Laid, table_laid, array_laid, text_laid, integers_laid, written_body, written}
+use Rattle.resb.specs.TreeKeys.{keys_met}
+use Rattle.resb.specs.WrittenFiles.{most_entries, written_body, written}
+use Rattle.resb.specs.LaidTrees.{laid, Laid, table_laid, array_laid, text_laid, integers_laid}
 use Rattle.resb.proofs.Layers.{laid-Text, laid-Integers, laid-Array, laid-Table}
 use Rattle.resb.proofs.Folds.{keys_met-Text, keys_met-Table, keys_met-Array, keys_met-Integers, most_entries-Text, most_entries-Table, most_entries-Array, most_entries-Integers}
 

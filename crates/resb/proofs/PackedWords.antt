@@ -2,7 +2,7 @@
 use Rattle.std.proofs.Common.{◌≡◌, ℕ, suc, ◌+◌, ◌*◌, ◌/◌, ◌%◌, ◌<◌, List, [], ◌∷◌, ◌++◌, length, refl, ap, ◌∙◌, subst, arith}
 use Rattle.std.specs.Prelude.{slice_index}
 use Rattle.resb_tree.specs.Words.{run, byte_in, unit_in}
-use Rattle.resb.specs.Writing.{pack_bytes, pack_units}
+use Rattle.resb.specs.Packing.{pack_bytes, pack_units}
 
 -- from a place on, a function gives these values
 abbrev pub Stand : (ℕ → ℕ) → ℕ → List ℕ → Type 0

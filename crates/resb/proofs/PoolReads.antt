@@ -5,8 +5,12 @@ use Rattle.std.proofs.lemmas.Bool.{cases_Bool, and_parts, and_from, ltb-true, ne
 use Rattle.std.proofs.lemmas.Slice.Eq.{bytes_eq-Decides}
 use Rattle.resb_tree.specs.Keys.{stands_in}
 use Rattle.resb_tree.specs.Words.{byte_in}
-use Rattle.resb_tree.specs.Tree.{Body, key_from, key_at}
-use Rattle.resb.specs.Writing.{first_keys, pool_bytes, key_place, places_of, most_of, is_key, all_keys}
+use Rattle.resb_tree.specs.Bodies.{Body}
+use Rattle.resb_tree.specs.Tables.{key_from, key_at}
+use Rattle.resb.specs.TreeKeys.{first_keys, pool_bytes, key_place}
+use Rattle.resb.specs.Writing.{places_of}
+use Rattle.resb.specs.WrittenFiles.{most_of}
+use Rattle.resb.specs.BadKeys.{is_key, all_keys}
 use Rattle.resb.proofs.PackedWords.{Stand, Below, below_append, stand_front, stand_back}
 
 -- ---- one key

@@ -2,7 +2,7 @@
 use Rattle.std.proofs.Common.{◌≡◌, ℕ, zero, suc, ◌+◌, ◌<◌, ◌≤◌, Bool, true, false, List, [], ◌∷◌, length, take, drop, get_or, Option, Some, None, refl, ap, ◌∙◌, Bor, add-one, drop-cons, arith}
 use Rattle.std.specs.Str.{bytes_eq}
 use Rattle.resb.specs.Pool.{bare, pool_end}
-use Rattle.resb.specs.Writing.{pool_bytes}
+use Rattle.resb.specs.TreeKeys.{pool_bytes}
 use Rattle.resb.proofs.Pools.{bytes_eq_sym, told_at, behind}
 
 here_told : (k q : List ℕ) (ks : List (List ℕ)) (at : ℕ) → bytes_eq k q ≡ true → Some at ≡ told_at (k ∷ ks) at q

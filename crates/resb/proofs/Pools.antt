@@ -11,10 +11,12 @@ use Rattle.std.proofs.lemmas.List.{append-nil, length-append, map-append}
 use Rattle.std.proofs.lemmas.Map.Text.{btree_map_updates_str}
 use Rattle.std.proofs.lemmas.Slice.Eq.{bytes_eq-Decides}
 use Rattle.resb_tree.specs.Keys.{stands_in}
-use Rattle.resb_tree.specs.Tree.{◌>>=◌}
+use Rattle.resb_tree.specs.Bodies.{◌>>=◌}
 use Rattle.resb.specs.Pool.{bare, place_of, place_told, pool_end}
-use Rattle.resb.specs.Plan.{added, pooled}
-use Rattle.resb.specs.Writing.{key_place, pool_bytes, first_keys, places_of, most_of}
+use Rattle.resb.specs.KeyPlan.{added, pooled}
+use Rattle.resb.specs.TreeKeys.{key_place, pool_bytes, first_keys}
+use Rattle.resb.specs.Writing.{places_of}
+use Rattle.resb.specs.WrittenFiles.{most_of}
 use Rattle.std.specs.Bool.{one_answer}
 
 pub bytes_eq_sym : (xs ys : List ℕ) → bytes_eq xs ys ≡ bytes_eq ys xs

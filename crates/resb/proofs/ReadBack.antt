@@ -6,11 +6,16 @@ use Rattle.resb_tree.specs.declared.resource.Resource.{Resource}
 use Rattle.resb_tree.specs.declared.resource.Resource.TheVariants as r
 use Rattle.resb_tree.specs.Keys.{distinct, keys_in}
 use Rattle.resb_tree.specs.Words.{run, byte_in, unit_in}
-use Rattle.resb_tree.specs.Tree.{Body, counted, text_at, bytes_at, integers_at, all_of, array_at, key_at, entries_of, table16_at, by_type, tree_at}
-use Rattle.resb.specs.Writing.{pack_bytes, pack_units, item, Laid, text_laid, bytes_laid, integers_laid}
+use Rattle.resb_tree.specs.Bodies.{Body, counted}
+use Rattle.resb_tree.specs.Leaves.{text_at, bytes_at, integers_at}
+use Rattle.resb_tree.specs.Arrays.{all_of, array_at}
+use Rattle.resb_tree.specs.Tables.{key_at, entries_of, table16_at}
+use Rattle.resb_tree.specs.Tree.{by_type, tree_at}
+use Rattle.resb.specs.Packing.{pack_bytes, pack_units}
+use Rattle.resb.specs.LaidTrees.{item, Laid, text_laid, bytes_laid, integers_laid}
 use Rattle.resb.specs.Laws.{all_below}
 use Rattle.resb.proofs.PackedWords.{Stand, StandIn, Below, below_append, stand_front, stand_run, bytes_stand, units_stand, length-pack_units, length-pack_bytes}
-use Rattle.resb.specs.Plan.{values_in}
+use Rattle.resb.specs.KeyPlan.{values_in}
 use Rattle.resb.proofs.PoolReads.{Each, Placed}
 
 -- ---- items

@@ -8,13 +8,17 @@ use Rattle.resb_tree.specs.declared.error.ResbError.{ResbError}
 use Rattle.resb_tree.specs.declared.error.ResbError.TheVariants.{Memory, NoTree, TooLarge, BadKey}
 use Rattle.resb_tree.specs.declared.resource.Resource.{Resource}
 use Rattle.resb_tree.specs.declared.resource.Resource.TheVariants as r
-use Rattle.resb.specs.Drafts.{Holds, HasRoom, Lacks, NoArray, AreNames, RefusesTable, MakesTable}
-use Rattle.resb.specs.Drafts.{NoTable as Untabled}
+use Rattle.resb.specs.DraftRows.{Holds, HasRoom}
+use Rattle.resb.specs.DraftParents.{Lacks, NoArray, AreNames, RefusesTable, MakesTable}
+use Rattle.resb.specs.DraftParents.{NoTable as Untabled}
 use Rattle.resb.specs.Inside.Laying.{Stands}
 use Rattle.resb.specs.Inside.Telling.{NoTable, Names}
-use Rattle.resb.specs.Plan.{Fits, most_words, Refuses, values_in}
+use Rattle.resb.specs.Plan.{Fits, most_words, Refuses}
+use Rattle.resb.specs.KeyPlan.{values_in}
 use Rattle.resb.specs.Pool.{all_in, bare, place_of}
-use Rattle.resb.specs.Writing.{laid, lay_all, most_of, depth}
+use Rattle.resb.specs.LaidTrees.{laid, lay_all}
+use Rattle.resb.specs.WrittenFiles.{most_of}
+use Rattle.resb.specs.Writing.{depth}
 use Rattle.resb.specs.declared.draft.Draft.{Draft}
 use Rattle.resb.proofs.Folds.{weight-Array, weight-Table}
 use Rattle.resb.proofs.LaidWords.{fits-count, fits-keys, refused_still}

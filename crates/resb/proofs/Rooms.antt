@@ -8,10 +8,14 @@ use Rattle.resb_tree.specs.declared.error.ResbError.TheVariants.{Memory, NoTree,
 use Rattle.resb_tree.specs.declared.resource.Resource.{Resource}
 use Rattle.resb_tree.specs.declared.resource.Resource.TheVariants as r
 use Rattle.resb_tree.specs.Weight.{weight, weights}
-use Rattle.resb.specs.Plan.{Fits, FitsAll, most_words, Refuses, values_in}
+use Rattle.resb.specs.Plan.{Fits, FitsAll, most_words, Refuses}
+use Rattle.resb.specs.KeyPlan.{values_in}
 use Rattle.resb.specs.Pool.{place_of, words_end}
-use Rattle.resb.specs.Writing.{laid, lay_all, most_of, depth}
-use Rattle.resb.specs.Drafts.{Holds, HasRoom, Unwritten}
+use Rattle.resb.specs.LaidTrees.{laid, lay_all}
+use Rattle.resb.specs.WrittenFiles.{most_of}
+use Rattle.resb.specs.Writing.{depth}
+use Rattle.resb.specs.DraftRows.{Holds, HasRoom}
+use Rattle.resb.specs.Drafts.{Unwritten}
 use Rattle.resb.specs.declared.draft.Draft.{Draft}
 use Rattle.resb.proofs.Folds.{weight-Array, weight-Table, depth-Array, depth-Table}
 use Rattle.resb.proofs.LaidWords.{most_both, fits-first, fits-array, fits-values, refused_still}

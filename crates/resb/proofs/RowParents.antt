@@ -6,12 +6,15 @@ use Rattle.resb_tree.specs.declared.resource.Resource.{Resource}
 use Rattle.resb_tree.specs.declared.resource.Resource.TheVariants as r
 use Rattle.resb_tree.specs.Keys.{keys_in, distinct}
 use Rattle.resb_tree.specs.Weight.{weight, weights, entry_weights, sum_of}
-use Rattle.resb.specs.Plan.{values_in}
+use Rattle.resb.specs.KeyPlan.{values_in}
 use Rattle.resb.specs.Pool.{place_of}
 use Rattle.resb.specs.Laws.{has_typed_parts}
-use Rattle.resb.specs.Writing.{laid, lay_all, most_of, most_entries, depth, all_keys, has_bad_key}
+use Rattle.resb.specs.LaidTrees.{laid, lay_all}
+use Rattle.resb.specs.WrittenFiles.{most_of, most_entries}
+use Rattle.resb.specs.Writing.{depth}
+use Rattle.resb.specs.BadKeys.{all_keys, has_bad_key}
 use Rattle.resb.specs.Inside.Laying.{IsLaid, Stands}
-use Rattle.resb.specs.Drafts.{Row}
+use Rattle.resb.specs.DraftRows.{Row}
 use Rattle.resb.proofs.Folds.{weight-Array, weight-Table, depth-Array, depth-Table, most_entries-Array, most_entries-Table, bad-Array, bad-Table}
 use Rattle.resb.proofs.Layers.{has_typed_parts-Array, has_typed_parts-Table}
 use Rattle.resb.proofs.LaidSteps.{length-lay_all, length-values, topmost, unstacked}

@@ -6,11 +6,16 @@ use Rattle.resb_tree.specs.declared.resource.Resource.{Resource}
 use Rattle.resb_tree.specs.declared.resource.Resource.TheVariants as r
 use Rattle.resb_tree.specs.Header.{tree_of}
 use Rattle.resb_tree.specs.Weight.{weight}
-use Rattle.resb.specs.Plan.{no_places, bundle_of, most_words}
+use Rattle.resb.specs.KeyPlan.{no_places}
+use Rattle.resb.specs.Plan.{bundle_of, most_words}
 use Rattle.resb.specs.Pool.{place_of, words_end}
-use Rattle.resb.specs.Writing.{text_laid, bytes_laid, integers_laid, laid, most_of, most_entries, places_of, all_keys, key_pool, has_bad_key, has_wide_integer, written}
+use Rattle.resb.specs.LaidTrees.{text_laid, bytes_laid, integers_laid, laid}
+use Rattle.resb.specs.WrittenFiles.{most_of, most_entries, written}
+use Rattle.resb.specs.Writing.{places_of, has_wide_integer}
+use Rattle.resb.specs.BadKeys.{all_keys, has_bad_key}
+use Rattle.resb.specs.TreeKeys.{key_pool}
 use Rattle.resb.specs.Inside.Laying.{IsLaid}
-use Rattle.resb.specs.Drafts.{Row}
+use Rattle.resb.specs.DraftRows.{Row}
 use Rattle.resb.proofs.Denotes.{denotes}
 use Rattle.resb.proofs.LaidWords.{laid-Text, laid-Bytes, laid-Integers, laid-Integer, text_fits, bytes_fits, integers_fits, integer_fits, fits_none, left_false}
 use Rattle.resb.proofs.WrittenWords.{Kept, keeps, written_is, length-written}

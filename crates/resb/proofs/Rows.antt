@@ -8,9 +8,12 @@ use Rattle.resb_tree.specs.Weight.{weight, weights}
 use Rattle.resb.specs.Laws.{all_true, has_typed_parts}
 use Rattle.resb.specs.Plan.{Fits, FitsAll}
 use Rattle.resb.specs.Pool.{place_of}
-use Rattle.resb.specs.Writing.{laid, lay_all, most_of, most_entries, depth, any_bad, has_bad_key}
+use Rattle.resb.specs.LaidTrees.{laid, lay_all}
+use Rattle.resb.specs.WrittenFiles.{most_of, most_entries}
+use Rattle.resb.specs.Writing.{depth}
+use Rattle.resb.specs.BadKeys.{any_bad, has_bad_key}
 use Rattle.resb.specs.Inside.Laying.{IsLaid, Stands}
-use Rattle.resb.specs.Drafts.{Row}
+use Rattle.resb.specs.DraftRows.{Row}
 use Rattle.resb.proofs.LaidWords.{most_both, fits-first, fits-rest, fits_none, fits_cons}
 use Rattle.resb.proofs.LaidSteps.{length-lay_all, topmost}
 

@@ -7,11 +7,13 @@ use Rattle.resb_tree.specs.Keys.{distinct, keys_in}
 use Rattle.resb_tree.specs.declared.error.ResbError.{ResbError}
 use Rattle.resb_tree.specs.declared.resource.Resource.{Resource}
 use Rattle.resb_tree.specs.declared.resource.Resource.TheVariants as r
-use Rattle.resb.specs.Drafts.{Holds, HasRoom, Puts, MakesArray}
+use Rattle.resb.specs.DraftRows.{Holds, HasRoom, Puts}
+use Rattle.resb.specs.DraftParents.{MakesArray}
 use Rattle.resb.specs.Inside.Telling.{Tells, Names}
-use Rattle.resb.specs.Plan.{Refuses, values_in}
+use Rattle.resb.specs.Plan.{Refuses}
+use Rattle.resb.specs.KeyPlan.{values_in}
 use Rattle.resb.specs.Pool.{bare}
-use Rattle.resb.specs.Writing.{all_keys, any_bad, has_bad_key}
+use Rattle.resb.specs.BadKeys.{all_keys, any_bad, has_bad_key}
 use Rattle.resb.specs.declared.draft.Draft.{Draft}
 use Rattle.resb.proofs.Folds.{bad-Array, bad-Table}
 use Rattle.resb.proofs.LaidSteps.{item_cons}

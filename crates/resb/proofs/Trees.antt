@@ -5,8 +5,16 @@ use Rattle.std.proofs.lemmas.Bool.{and_parts, or_parts, not-false, ltb-false}
 use Rattle.resb_tree.specs.declared.resource.Resource.{Resource}
 use Rattle.resb_tree.specs.declared.resource.Resource.TheVariants as r
 use Rattle.resb_tree.specs.Keys.{distinct, keys_in}
-use Rattle.resb_tree.specs.Tree.{Body, by_type, array_at, table16_at, tree_at}
-use Rattle.resb.specs.Writing.{pack_units, item, lay_all, array_laid, table_laid, laid, entry_keys, item_keys, keys_met, most_of, most_entries, any_bad, has_bad_key, depth, has_wide_integer}
+use Rattle.resb_tree.specs.Bodies.{Body}
+use Rattle.resb_tree.specs.Tree.{by_type, tree_at}
+use Rattle.resb_tree.specs.Arrays.{array_at}
+use Rattle.resb_tree.specs.Tables.{table16_at}
+use Rattle.resb.specs.Packing.{pack_units}
+use Rattle.resb.specs.LaidTrees.{item, lay_all, array_laid, table_laid, laid}
+use Rattle.resb.specs.TreeKeys.{entry_keys, item_keys, keys_met}
+use Rattle.resb.specs.WrittenFiles.{most_of, most_entries}
+use Rattle.resb.specs.BadKeys.{any_bad, has_bad_key}
+use Rattle.resb.specs.Writing.{depth, has_wide_integer}
 use Rattle.resb.specs.Laws.{all_true, has_typed_parts}
 use Rattle.resb.proofs.Cases.{by_variant}
 use Rattle.resb.proofs.PackedWords.{StandIn, Below, stand_front, stand_back, length-pack_units}
@@ -16,7 +24,7 @@ use Rattle.resb.proofs.LaidSteps.{length-lay_all, length-values}
 use Rattle.resb.proofs.LaidWords.{places_told}
 use Rattle.resb.proofs.Layers.{laid-Text, laid-Bytes, laid-Integers, laid-Integer, laid-Array, laid-Table, has_typed_parts-Text, has_typed_parts-Bytes, has_typed_parts-Table, has_typed_parts-Array}
 use Rattle.resb.proofs.Folds.{told-values, length-told, keys_met-Table, keys_met-Array, most_entries-Table, most_entries-Array, bad-Table, bad-Array, depth-Text, depth-Bytes, depth-Table, depth-Integer, depth-Array, depth-Integers, wide-Table, wide-Array, wide-Integer}
-use Rattle.resb.specs.Plan.{values_in}
+use Rattle.resb.specs.KeyPlan.{values_in}
 
 -- ---- a tree that the words have room for
 

@@ -10,10 +10,17 @@ use Rattle.resb_tree.specs.declared.error.ResbError.TheVariants.{Memory, NoTree,
 use Rattle.resb_tree.specs.declared.resource.Resource.{Resource}
 use Rattle.resb_tree.specs.Keys.{stands_in}
 use Rattle.resb.specs.Pool.{place_of, words_end}
-use Rattle.resb.specs.Drafts.{HasRoom, Unwritten}
-use Rattle.resb.specs.Plan.{pooled, Fills, Fits, Refuses, keys_end, most_words}
+use Rattle.resb.specs.DraftRows.{HasRoom}
+use Rattle.resb.specs.Drafts.{Unwritten}
+use Rattle.resb.specs.KeyPlan.{pooled, Fills}
+use Rattle.resb.specs.Plan.{Fits, Refuses, keys_end, most_words}
 use Rattle.resb_tree.specs.Weight.{weight}
-use Rattle.resb.specs.Writing.{pack_bytes, pool_bytes, key_pool, keys_met, first_keys, places_of, most_of, most_entries, depth, has_wide_integer, has_bad_key, all_keys, laid, header, written_body, written, is_too_large, writing, Writes}
+use Rattle.resb.specs.Packing.{pack_bytes}
+use Rattle.resb.specs.TreeKeys.{pool_bytes, key_pool, keys_met, first_keys}
+use Rattle.resb.specs.Writing.{places_of, depth, has_wide_integer, is_too_large, writing, Writes}
+use Rattle.resb.specs.WrittenFiles.{most_of, most_entries, header, written_body, written}
+use Rattle.resb.specs.BadKeys.{has_bad_key, all_keys}
+use Rattle.resb.specs.LaidTrees.{laid}
 use Rattle.resb.proofs.GoodKeys.{keys_good}
 use Rattle.resb.proofs.LaidWords.{left_false, right_false, fits_cons, fits_none}
 use Rattle.resb.proofs.PoolReads.{place_low, pool_keys}

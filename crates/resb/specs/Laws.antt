@@ -1,9 +1,11 @@
--- What the definitions of words and trees keep.
+-- What the definitions of words and trees keep (docs/FORMATS.md, "The writer").
 use Rattle.std.specs.Prelude.{◌≡◌, ℕ, Bool, true, false, Some, ◌&&◌, nat_lt, List, [], ◌∷◌, map}
 use Rattle.resb_tree.specs.declared.resource.Resource.{Resource, fold-Resource}
 use Rattle.resb_tree.specs.declared.resource.Resource.TheOpen.{Resource-F}
 use Rattle.resb_tree.specs.Header.{tree_of}
-use Rattle.resb.specs.Writing.{written, has_bad_key, is_too_large}
+use Rattle.resb.specs.WrittenFiles.{written}
+use Rattle.resb.specs.BadKeys.{has_bad_key}
+use Rattle.resb.specs.Writing.{is_too_large}
 
 -- each number is below a bound
 abbrev pub all_below : ℕ → List ℕ → Bool

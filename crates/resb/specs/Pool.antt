@@ -1,8 +1,9 @@
--- The pool of keys: where each begins.
+-- The pool of keys: where each begins (docs/FORMATS.md, "Keys").
 use Rattle.std.specs.Prelude.{ℕ, ◌+◌, Bool, true, ◌&&◌, List, [], ◌∷◌, length, map, Option, Some, None, if◌then◌else◌}
 use Rattle.std.specs.Borrow.{Bor}
 use Rattle.resb_tree.specs.Keys.{stands_in}
-use Rattle.resb.specs.Writing.{key_place, pool_bytes, pack_bytes}
+use Rattle.resb.specs.TreeKeys.{key_place, pool_bytes}
+use Rattle.resb.specs.Packing.{pack_bytes}
 
 -- borrowed keys, as the keys
 abbrev pub bare : List (Bor (List ℕ)) → List (List ℕ)

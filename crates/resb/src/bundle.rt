@@ -1,7 +1,9 @@
 ghost use Rattle.std.specs.Prelude.{◌≡◌, ◌+◌, ◌*◌, ◌++◌, ◌∷◌, ◌≤◌, [], length, IfOk, OnOk, IfErr};
 ghost use Rattle.resb.specs.Pool.{bare};
 ghost use Rattle.resb.specs.Plan.{most_words, bundle_of, Refuses};
-ghost use Rattle.resb.specs.Writing.{pack_bytes, pool_bytes, header};
+ghost use Rattle.resb.specs.Packing.{pack_bytes};
+ghost use Rattle.resb.specs.TreeKeys.{pool_bytes};
+ghost use Rattle.resb.specs.WrittenFiles.{header};
 
 use crate::packing::push_bytes;
 use crate::pool::KeyPool;

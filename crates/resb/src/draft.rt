@@ -2,8 +2,12 @@ ghost use Rattle.std.specs.Prelude.{◌≡◌, ◌≢◌, ℕ, ◌+◌, ◌*◌,
 ghost use Rattle.resb_tree.specs.Keys.{stands_in, distinct};
 ghost use Rattle.resb_tree.specs.Weight.{sum_of};
 ghost use Rattle.resb.specs.Pool.{all_in, bare, words_end};
-ghost use Rattle.resb.specs.Plan.{places_in, most_words, Refuses};
-ghost use Rattle.resb.specs.Writing.{most_of, places_of, all_keys, first_keys};
+ghost use Rattle.resb.specs.KeyPlan.{places_in};
+ghost use Rattle.resb.specs.Plan.{most_words, Refuses};
+ghost use Rattle.resb.specs.WrittenFiles.{most_of};
+ghost use Rattle.resb.specs.Writing.{places_of};
+ghost use Rattle.resb.specs.BadKeys.{all_keys};
+ghost use Rattle.resb.specs.TreeKeys.{first_keys};
 
 use crate::bundle::bundle_words;
 use crate::key_pool::pool_of;
@@ -190,8 +194,11 @@ impl<'k> Draft<'k> {
     ghost use Rattle.resb_tree.specs.declared.resource.Resource.TheVariants as r;
     ghost use Rattle.resb_tree.specs.Header.{tree_of};
     ghost use Rattle.resb_tree.specs.Weight.{weight};
-    ghost use Rattle.resb.specs.Writing.{key_pool, written};
-    ghost use Rattle.resb.specs.Drafts.{Holds, Puts, MakesArray, MakesTable, Unwritten};
+    ghost use Rattle.resb.specs.TreeKeys.{key_pool};
+    ghost use Rattle.resb.specs.WrittenFiles.{written};
+    ghost use Rattle.resb.specs.DraftRows.{Holds, Puts};
+    ghost use Rattle.resb.specs.DraftParents.{MakesArray, MakesTable};
+    ghost use Rattle.resb.specs.Drafts.{Unwritten};
     ghost use Rattle.resb.specs.Inside.Telling.{Names};
 
     /// An empty row. The keys are those of the tree that will be written, in the order in which a walk first meets them, an

@@ -1,6 +1,7 @@
 ghost use Rattle.std.specs.Prelude.{◌≡◌, ◌+◌, ◌<◌, ◌≤◌, ◌++◌, nat_le, length, OnOk, IfOk, IfErr};
-ghost use Rattle.resb.specs.Plan.{most_words, no_places, Refuses};
-ghost use Rattle.resb.specs.Writing.{text_laid, bytes_laid, integers_laid};
+ghost use Rattle.resb.specs.Plan.{most_words, Refuses};
+ghost use Rattle.resb.specs.KeyPlan.{no_places};
+ghost use Rattle.resb.specs.LaidTrees.{text_laid, bytes_laid, integers_laid};
 
 use crate::packing::{push_bytes, push_text};
 use resb_tree::ResbError;

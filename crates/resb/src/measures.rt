@@ -1,7 +1,7 @@
 ghost use Rattle.std.specs.Prelude.{◌≡◌, ◌&&◌, map, IfOk};
 ghost use Rattle.resb_tree.specs.Keys.{keys_in};
-ghost use Rattle.resb.specs.Plan.{values_in};
-ghost use Rattle.resb.specs.Writing.{is_key, all_keys, any_bad, has_bad_key};
+ghost use Rattle.resb.specs.KeyPlan.{values_in};
+ghost use Rattle.resb.specs.BadKeys.{is_key, all_keys, any_bad, has_bad_key};
 
 use resb_tree::{Key, Resource, are_distinct};
 use sqlite_items::Items;

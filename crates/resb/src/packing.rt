@@ -1,5 +1,5 @@
 ghost use Rattle.std.specs.Prelude.{◌≡◌, ◌+◌, ◌*◌, ◌∷◌, [], ◌++◌, OnOk};
-ghost use Rattle.resb.specs.Writing.{pack_units, pack_bytes};
+ghost use Rattle.resb.specs.Packing.{pack_units, pack_bytes};
 
 use std::alloc::AllocError;
 

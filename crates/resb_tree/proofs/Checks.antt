@@ -9,7 +9,8 @@ use Rattle.resb_tree.specs.declared.error.ResbError.TheVariants as errors
 use Rattle.resb_tree.specs.declared.checker.Met.{Met}
 use Rattle.resb_tree.specs.declared.checker.Apart.{Apart}
 use Rattle.resb_tree.specs.Words.{run, byte_in}
-use Rattle.resb_tree.specs.Tree.{◌>>=◌, Body, key_at}
+use Rattle.resb_tree.specs.Bodies.{◌>>=◌, Body}
+use Rattle.resb_tree.specs.Tables.{key_at}
 use Rattle.resb_tree.specs.Reading.{Gives, spent, key_stop}
 use Rattle.resb_tree.specs.Inside.Places.{IsKey}
 use Rattle.resb_tree.specs.Inside.Checks.{key_length, IsMet, AreMet, IsApart, IsTable, AreApart, items_left, key_left, entries_left}

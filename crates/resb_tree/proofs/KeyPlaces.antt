@@ -6,7 +6,8 @@ use Rattle.std.proofs.lemmas.Bool.Decides.{leb_tells, eqb_tells}
 use Rattle.std.proofs.lemmas.List.{drop_all, append-nil}
 use Rattle.resb_tree.specs.Words.{run, byte_in}
 use Rattle.resb_tree.specs.Keys.{stands_in, distinct, keys_in}
-use Rattle.resb_tree.specs.Tree.{◌>>=◌, Body, key_from, key_at}
+use Rattle.resb_tree.specs.Bodies.{◌>>=◌, Body}
+use Rattle.resb_tree.specs.Tables.{key_from, key_at}
 use Rattle.resb_tree.specs.Inside.Places.{key_there, IsKey}
 use Rattle.resb_tree.specs.Inside.Checks.{keys_there}
 use Rattle.resb_tree.proofs.Runs.{run-push}

@@ -10,8 +10,12 @@ use Rattle.resb_tree.specs.declared.resource.Resource.TheViews.{out-roll-Resourc
 use Rattle.resb_tree.specs.declared.forms.TableForm.TheVariants as table
 use Rattle.resb_tree.specs.Words.{run, unit_in, byte_in}
 use Rattle.resb_tree.specs.Keys.{distinct}
-use Rattle.resb_tree.specs.Fields.{text_in, text_layer, bytes_in, bytes_layer, integers_in, integers_layer, items_in, items_layer, entries_in, entries_layer, index_in, index_layer}
-use Rattle.resb_tree.specs.Tree.{◌>>=◌, Body, area_unit, counted, area_counted, all_of, entries_of, table_of, integers_at, text_at, bytes_at, short_text_at, array_at, short_array_at, key_at, table16_at, table32_at, short_table_at, by_type, tree_at}
+use Rattle.resb_tree.specs.Contents.{text_in, text_layer, bytes_in, bytes_layer, integers_in, integers_layer, items_in, items_layer, entries_in, entries_layer, index_in, index_layer}
+use Rattle.resb_tree.specs.Bodies.{◌>>=◌, Body, area_unit, counted, area_counted}
+use Rattle.resb_tree.specs.Arrays.{all_of, array_at, short_array_at}
+use Rattle.resb_tree.specs.Tables.{entries_of, table_of, key_at, table16_at, table32_at, short_table_at}
+use Rattle.resb_tree.specs.Leaves.{integers_at, text_at, bytes_at, short_text_at}
+use Rattle.resb_tree.specs.Tree.{by_type, tree_at}
 use Rattle.resb_tree.specs.Forms.{entry_in}
 use Rattle.resb_tree.specs.Reading.{short_span}
 use Rattle.resb_tree.specs.Inside.Places.{tree_there, IsTree}

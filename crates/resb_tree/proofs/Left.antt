@@ -12,7 +12,11 @@ use Rattle.resb_tree.specs.declared.forms.TableForm.TheVariants as table
 use Rattle.resb_tree.specs.Words.{run, unit_in, byte_in}
 use Rattle.resb_tree.specs.Weight.{weight, weights, entry_weights}
 use Rattle.resb_tree.specs.Keys.{distinct}
-use Rattle.resb_tree.specs.Tree.{◌>>=◌, when, Body, area_unit, counted, all_of, integers_at, text_at, bytes_at, short_text_at, array_at, short_array_at, key_at, entries_of, table_of, table16_at, table32_at, short_table_at, by_type, tree_at, denoted}
+use Rattle.resb_tree.specs.Bodies.{◌>>=◌, when, Body, area_unit, counted}
+use Rattle.resb_tree.specs.Arrays.{all_of, array_at, short_array_at}
+use Rattle.resb_tree.specs.Leaves.{integers_at, text_at, bytes_at, short_text_at}
+use Rattle.resb_tree.specs.Tables.{key_at, entries_of, table_of, table16_at, table32_at, short_table_at}
+use Rattle.resb_tree.specs.Tree.{by_type, tree_at, denoted}
 use Rattle.resb_tree.specs.Forms.{item_in, no_items, array_count, entry_in, no_entries, table_count}
 use Rattle.resb_tree.specs.Reading.{spent, short_span}
 use Rattle.resb_tree.specs.Inside.Places.{the_tree, root_there, key_there}

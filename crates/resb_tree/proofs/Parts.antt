@@ -13,8 +13,12 @@ use Rattle.resb_tree.specs.declared.forms.TableForm.{TableForm}
 use Rattle.resb_tree.specs.declared.forms.TableForm.TheVariants as table
 use Rattle.resb_tree.specs.Words.{run, unit_in}
 use Rattle.resb_tree.specs.Keys.{distinct}
-use Rattle.resb_tree.specs.Fields.{items_in, entries_in, first_with}
-use Rattle.resb_tree.specs.Tree.{◌>>=◌, when, Body, area_len, area_unit, counted, all_of, entries_of, key_at, by_type, tree_at}
+use Rattle.resb_tree.specs.Contents.{items_in, entries_in}
+use Rattle.resb_tree.specs.Fields.{first_with}
+use Rattle.resb_tree.specs.Bodies.{◌>>=◌, when, Body, area_len, area_unit, counted}
+use Rattle.resb_tree.specs.Arrays.{all_of}
+use Rattle.resb_tree.specs.Tables.{entries_of, key_at}
+use Rattle.resb_tree.specs.Tree.{by_type, tree_at}
 use Rattle.resb_tree.specs.Forms.{item_in, items_end, no_items, array_count, entry_in, no_entries, EntriesLie, table_count}
 use Rattle.resb_tree.specs.Inside.Places.{the_tree, the_list, tree_there, IsTree, items_there, AreItems, entries_there, AreEntries}
 use Rattle.resb_tree.specs.Inside.Parts.{items_count, entries_end, entries_count, array_form, table_form}

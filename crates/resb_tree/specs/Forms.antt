@@ -1,7 +1,7 @@
--- Where the items of an array, and the key places and items of a table, stand.
+-- Where the items of an array, and the key places and items of a table, stand (docs/FORMATS.md, "Items").
 use Rattle.std.specs.Prelude.{ℕ, ◌+◌, ◌*◌, ◌/◌, Bool, false, ◌&&◌, slice_index, Option, Some, None, if◌then◌else◌, ◌==◌, ◌≤◌, nat_le, nat_lt}
 use Rattle.resb_tree.specs.Words.{unit_in}
-use Rattle.resb_tree.specs.Tree.{Body, body, area_len, area_unit, text_item, counted, area_counted}
+use Rattle.resb_tree.specs.Bodies.{Body, body, area_len, area_unit, text_item, counted, area_counted}
 use Rattle.resb_tree.specs.declared.body.BodyWords.{BodyWords}
 use Rattle.resb_tree.specs.declared.forms.ArrayForm.{ArrayForm}
 use Rattle.resb_tree.specs.declared.forms.ArrayForm.TheVariants as array

@@ -1,4 +1,4 @@
--- Keys that stand once.
+-- Keys that stand once (docs/FORMATS.md, "Keys").
 use Rattle.std.specs.Prelude.{if◌then◌else◌, ℕ, Bool, true, false, not, ◌&&◌, List, [], ◌∷◌, map}
 use Rattle.std.specs.Str.{bytes_eq}
 

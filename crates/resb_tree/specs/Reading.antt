@@ -1,8 +1,9 @@
--- What a pass over the words under a limit on weight gives, and where it finds keys and texts of the 16-bit area (docs/FORMATS.md, "Weight").
+-- What a pass over the words under a limit on weight gives, and where it finds keys and texts of the 16-bit area
+-- (docs/FORMATS.md, "Weight").
 use Rattle.std.specs.Prelude.{◌≡◌, ℕ, zero, suc, ◌-◌, ◌+◌, ◌%◌, ◌||◌, ◌*◌, if◌then◌else◌, ◌==◌, Option, Some, None, Result, Ok, Err, nat_le, nat_lt, cond}
 use Rattle.resb_tree.specs.declared.error.ResbError.{ResbError}
 use Rattle.resb_tree.specs.declared.error.ResbError.TheVariants as errors
-use Rattle.resb_tree.specs.Tree.{◌>>=◌, Body, area_len, area_unit}
+use Rattle.resb_tree.specs.Bodies.{◌>>=◌, Body, area_len, area_unit}
 
 -- what a weight leaves of the limit, or nothing past it
 abbrev pub spent : ℕ → ℕ → Option ℕ

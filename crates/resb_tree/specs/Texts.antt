@@ -1,4 +1,4 @@
--- What an error prints.
+-- What an error prints (docs/FORMATS.md, "What reading answers").
 use Rattle.std.specs.Prelude.{ℕ, List, codes}
 use Rattle.resb_tree.specs.declared.error.ResbError.{ResbError}
 use Rattle.resb_tree.specs.declared.error.ResbError.TheVariants.{Memory, NoTree, TooLarge, BadKey}

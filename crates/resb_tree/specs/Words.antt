@@ -1,4 +1,4 @@
--- Words of 32 bits, and the bytes and 16-bit units in them, low ones first.
+-- Words of 32 bits, and the bytes and 16-bit units in them, low ones first (docs/FORMATS.md, "The 16-bit area").
 use Rattle.std.specs.Prelude.{ℕ, zero, suc, ◌+◌, ◌/◌, ◌%◌, List, [], ◌∷◌, slice_index, if◌then◌else◌, ◌==◌}
 
 -- the byte at a place, counted from the first word's low byte

@@ -45,7 +45,7 @@ pub struct Checker<'a> {
 }
 
 impl<'a> Model for Checker<'a> {
-    ghost use Rattle.resb_tree.specs.Tree.{Body};
+    ghost use Rattle.resb_tree.specs.Bodies.{Body};
 
     ghost Value = { Body };
 

@@ -2,8 +2,9 @@
 ghost use Rattle.std.specs.Prelude.{◌≡◌, IfOk};
 ghost use Rattle.resb_tree.specs.Header.{tree_of};
 ghost use Rattle.resb_tree.specs.Reading.{Gives};
-ghost use Rattle.resb_tree.specs.Fields.{text_in, bytes_in, integers_in, items_in, entries_in};
-ghost use Rattle.resb_tree.specs.Fields.{index_in, signed_in, field_in, seen};
+ghost use Rattle.resb_tree.specs.Contents.{text_in, bytes_in, integers_in, items_in, entries_in};
+ghost use Rattle.resb_tree.specs.Contents.{index_in, signed_in};
+ghost use Rattle.resb_tree.specs.Fields.{field_in, seen};
 
 use crate::body::BodyWords;
 use crate::checking::{DEPTH, STEP, check_root};

@@ -1,5 +1,5 @@
 ghost use Rattle.std.specs.Prelude.{◌≡◌, ℕ, ◌+◌, ◌-◌, ◌*◌, ◌<◌, ◌≤◌, IfSome};
-ghost use Rattle.resb_tree.specs.Tree.{area_len, area_unit};
+ghost use Rattle.resb_tree.specs.Bodies.{area_len, area_unit};
 ghost use Rattle.resb_tree.specs.Forms.{told};
 ghost use Rattle.resb_tree.specs.Reading.{Gives, spent, zero_from, span_inside, told_span, short_span};
 

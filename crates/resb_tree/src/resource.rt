@@ -1,7 +1,8 @@
 ghost use Rattle.std.specs.Prelude.{◌≡◌, ℕ, ◌<◌, List, false, None, IfSome, IfNone};
 ghost use Rattle.std.specs.Str.{bytes_eq};
 ghost use Rattle.std.specs.Option.{option_copied};
-ghost use Rattle.resb_tree.specs.Fields.{text_in, bytes_in, integers_in, items_in, entries_in, index_in, signed_in, sign_extended, field_in, first_with, without_first, without_field, StandsFirst, seen};
+ghost use Rattle.resb_tree.specs.Contents.{text_in, bytes_in, integers_in, items_in, entries_in, index_in, signed_in, sign_extended};
+ghost use Rattle.resb_tree.specs.Fields.{field_in, first_with, without_first, without_field, StandsFirst, seen};
 
 use crate::key::Key;
 use sqlite_items::Items;

@@ -1,6 +1,6 @@
 //! The tree that stands in the words of a body, copied out of them.
 ghost use Rattle.std.specs.Prelude.{◌≡◌, ◌+◌, ◌<◌, IfOk, None};
-ghost use Rattle.resb_tree.specs.Fields.{items_in, entries_in};
+ghost use Rattle.resb_tree.specs.Contents.{items_in, entries_in};
 ghost use Rattle.resb_tree.specs.declared.resource.Resource.TheVariants as r;
 ghost use Rattle.resb_tree.specs.Forms.{told, items_end};
 ghost use Rattle.resb_tree.specs.Inside.Parts.{items_count, entries_end, entries_count};

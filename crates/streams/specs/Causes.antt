@@ -1,4 +1,4 @@
--- Counts of faults, and what a failing call says of them.
+-- Counts of faults, and what a failing call says of them (docs/STREAMS.md, "What stands when a run ends early").
 use Rattle.std.specs.Prelude.{◌≡◌, ◌⊎◌, ℕ, ◌-◌, ◌^◌, ◌<◌, ◌≤◌, Result, OnErr}
 
 -- a count of faults rose, or stands at its type's last value

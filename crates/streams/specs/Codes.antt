@@ -1,4 +1,4 @@
--- The exit status that stands for a status.
+-- The exit status that stands for a status (docs/ARCHITECTURE.md, "Statuses").
 use Rattle.std.specs.Prelude.{ℕ}
 use Rattle.streams.specs.declared.status.Status.{Status}
 use Rattle.streams.specs.declared.status.Status.TheVariants.{Done, Usage, Bundle, ReadFault, WriteFault, Memory, TooLong}

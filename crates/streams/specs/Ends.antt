@@ -1,4 +1,4 @@
--- How a run over an input ends.
+-- How a run over an input ends (docs/ARCHITECTURE.md, "Statuses").
 use Rattle.std.specs.Prelude.{◌≡◌, ℕ, nat_lt, if◌then◌else◌, List, length, ⊤, Option, Some, None}
 use Rattle.std.specs.Option.{option_map}
 use Rattle.streams.specs.declared.status.Status.{Status}

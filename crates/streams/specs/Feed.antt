@@ -1,4 +1,4 @@
--- What contracts see of a source and a sink in memory.
+-- What contracts see of a source and a sink in memory (docs/ARCHITECTURE.md, "Statuses").
 use Rattle.std.specs.Prelude.{ℕ, ◌+◌, ◌-◌, ◌^◌, ◌<◌, ◌≤◌, min, List, [], length, Contains}
 
 -- a source: the bytes to come, the numbers of the calls that fail, and the calls and faults so far

@@ -1,4 +1,4 @@
--- Lines of bytes.
+-- Lines of bytes (docs/ARCHITECTURE.md, "Lines").
 use Rattle.std.specs.Prelude.{ℕ, ◌==◌, if◌then◌else◌, List, [], ◌∷◌, ◌++◌}
 
 -- the last line, which has no LF and counts where it has a byte

@@ -1,4 +1,5 @@
--- Reports: the replies to lines, one behind the other. Which texts reply to a line is told by a relation.
+-- Reports: the replies to lines, one behind the other. Which texts reply to a line is told by a relation
+-- (docs/STREAMS.md, "When a line is answered").
 use Rattle.std.specs.Prelude.{◌≡◌, ◌↔◌, ℕ, ◌<◌, List, [], ◌∷◌, ◌++◌, length, take}
 
 -- the replies to these lines, in order

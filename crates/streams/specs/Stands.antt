@@ -1,4 +1,5 @@
--- What stands after a run over an input: the bytes that it took, and what the sink gained for them.
+-- What stands after a run over an input: the bytes that it took, and what the sink gained for them
+-- (docs/STREAMS.md, "What stands when a run ends early").
 use Rattle.std.specs.Prelude.{◌≡◌, ◌⊎◌, ℕ, List, [], Option}
 use Rattle.std.specs.Io.KnownBytes.{Appends, Consumes, IsAtEnd}
 use Rattle.streams.specs.Lines.{lines, ended}

@@ -1,4 +1,4 @@
--- How much of a source was taken, and how much a sink gained.
+-- How much of a source was taken, and how much a sink gained (docs/STREAMS.md, "What stands when a run ends early").
 use Rattle.std.specs.Prelude.{ℕ, ◌<◌, ◌≤◌, ⊤, List, ◌++◌, ◌≡◌, length, Some, None}
 use Rattle.std.specs.declared.option.Option.{Option}
 use Rattle.std.specs.Io.KnownBytes.{Consumes, Appends}

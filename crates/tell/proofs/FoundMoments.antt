@@ -19,7 +19,8 @@ use Rattle.tell.specs.declared.told.TellError.{TellError}
 use Rattle.tell.specs.Fields.{LineFields, fields_of}
 use Rattle.tell.specs.Moments.{IsBase}
 use Rattle.tell.specs.Voices.{Voices}
-use Rattle.tell.specs.Replies.{Reply, UnknownZone, BadBase, Unlawful, Fault, Moment as Told, BadLine, Tale, IsTale, IsReplyIn, IsReplyOf, IsReplyTo}
+use Rattle.tell.specs.Replies.{Reply, UnknownZone, BadBase, Unlawful, Fault, Moment as Told, BadLine, IsReplyIn, IsReplyOf, IsReplyTo}
+use Rattle.tell.specs.Tales.{Tale, IsTale}
 use Rattle.tell.specs.ReplyTexts.{reply_text}
 use Rattle.tell.specs.Tells.{Tells}
 use Rattle.timeago.specs.Appended.{Adds}

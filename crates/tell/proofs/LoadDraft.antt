@@ -4,11 +4,11 @@ use Rattle.std.proofs.lemmas.List.{length-append}
 use Rattle.resb_tree.specs.Keys.{stands_in}
 use Rattle.resb_tree.specs.declared.resource.Resource.{Resource}
 use Rattle.resb_tree.specs.declared.resource.Resource.TheVariants as r
-use Rattle.resb.specs.Drafts.{Holds}
+use Rattle.resb.specs.DraftRows.{Holds}
 use Rattle.resb.specs.declared.draft.Draft.{Draft}
-use Rattle.resb.specs.Writing.{keys_met, item_keys, first_keys, key_pool}
+use Rattle.resb.specs.TreeKeys.{keys_met, item_keys, first_keys, key_pool}
 use Rattle.resb.proofs.Folds.{keys_met-Text, keys_met-Integers, keys_met-Array, keys_met-Table}
-use Rattle.tell.specs.Load.{up_to, zone_name}
+use Rattle.tell.specs.LoadZones.{up_to, zone_name}
 use Rattle.tell.specs.Inside.LoadTree.{zone_tree, name_tree, region_tree, load_tree}
 use Rattle.tell.proofs.LoadZones.{run, up_to-run}
 

@@ -1,14 +1,16 @@
 -- What a run over a large input gained.
 use Rattle.std.proofs.Common.{◌≡◌, ℕ, List, [], ◌++◌, Some, ap, ◌∙◌, subst, sym}
 use Rattle.resb_tree.specs.Header.{tree_of}
-use Rattle.tongues.specs.Languages.{english}
+use Rattle.tongues.specs.GermanicLanguages.{english}
 use Rattle.zoneinfo64.specs.NamedZone.{NamedZone}
 use Rattle.streams.specs.Feed.{Feed, Drain, new_feed, new_drain}
 use Rattle.streams.specs.Lines.{lines}
 use Rattle.streams.specs.Report.{IsReport}
 use Rattle.tell.specs.ReplyTexts.{IsReply}
-use Rattle.tell.specs.Run.{words_of, Reported}
-use Rattle.tell.specs.Load.{load_zones, load_input}
+use Rattle.tell.specs.BundleZones.{words_of}
+use Rattle.tell.specs.Reports.{Reported}
+use Rattle.tell.specs.LoadZones.{load_zones}
+use Rattle.tell.specs.Load.{load_input}
 use Rattle.tell.specs.Inside.LoadTree.{load_tree}
 use Rattle.tell.proofs.LoadZones.{load_zones_there}
 

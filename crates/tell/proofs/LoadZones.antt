@@ -10,16 +10,19 @@ use Rattle.resb_tree.specs.declared.resource.Resource.{Resource, out-Resource, o
 use Rattle.resb_tree.specs.declared.resource.Resource.TheOpen.{Resource-F}
 use Rattle.resb_tree.specs.declared.resource.Resource.TheViews.{rolls-Table, rolls-Array, rolls-Text, rolls-Integers}
 use Rattle.resb_tree.specs.declared.resource.Resource.TheVariants as r
-use Rattle.resb_tree.specs.Tree.{when}
+use Rattle.resb_tree.specs.Bodies.{when}
 use Rattle.resb_tree.specs.Header.{tree_of}
 use Rattle.timeline.specs.Zone.{fits_i32}
 use Rattle.timeline.specs.Zone.{RawRule}
 use Rattle.zoneinfo64.specs.NamedZone.{NamedZone}
-use Rattle.zoneinfo64.specs.RuleFields.{as_i32, rule_named}
-use Rattle.zoneinfo64.specs.ZoneFields.{type_offsets, integers_at, bytes_at, wide_at, zone_rule, plain_zone_of}
-use Rattle.zoneinfo64.specs.Bundle.{place_of, named_zone, named_zones, array_in, table_in, checked_zones, zone_list, zones_of_words}
-use Rattle.tell.specs.Run.{words_of, bundle_words, bundle_zones}
-use Rattle.tell.specs.Load.{up_to, load_offset, fixed_zone, load_zone, load_zones}
+use Rattle.zoneinfo64.specs.RuleDates.{as_i32}
+use Rattle.zoneinfo64.specs.RuleFields.{rule_named}
+use Rattle.zoneinfo64.specs.ZoneLists.{type_offsets, integers_at, bytes_at, wide_at}
+use Rattle.zoneinfo64.specs.ZoneFields.{zone_rule, plain_zone_of}
+use Rattle.zoneinfo64.specs.ZoneNames.{place_of, named_zone, named_zones}
+use Rattle.zoneinfo64.specs.Bundle.{array_in, table_in, checked_zones, zone_list, zones_of_words}
+use Rattle.tell.specs.BundleZones.{words_of, bundle_words, bundle_zones}
+use Rattle.tell.specs.LoadZones.{up_to, load_offset, fixed_zone, load_zone, load_zones}
 use Rattle.tell.specs.Inside.LoadTree.{zone_tree, name_tree, region_tree, load_tree}
 
 -- ---- parts of a tree

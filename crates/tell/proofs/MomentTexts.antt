@@ -6,7 +6,7 @@ use Rattle.timeline.specs.declared.offset.Offset.{Offset}
 use Rattle.timeline.specs.Zone.{PlainZone}
 use Rattle.timeline.specs.Timeline.{offset_at}
 use Rattle.tell.specs.Voices.{Voices, voice_for, IsToldBy}
-use Rattle.tell.specs.Replies.{IsTale, lead}
+use Rattle.tell.specs.Tales.{IsTale, lead}
 use Rattle.tell.specs.Inside.ReplyParts.{front_text, IsMomentText}
 
 -- the lead is the same where nanoseconds are carried over to seconds

@@ -7,9 +7,9 @@ use Rattle.timeago.specs.Laws.{OneText}
 use Rattle.timeline.specs.declared.fault.ZoneFault.{ZoneFault}
 use Rattle.timeline.specs.Zone.{PlainZone}
 use Rattle.timeline.specs.Laws.{IsLawful}
-use Rattle.timeline.specs.Promises.{OneVerdict}
+use Rattle.timeline.specs.EntryPromises.{OneVerdict}
 use Rattle.zoneinfo64.specs.NamedZone.{NamedZone, named}
-use Rattle.timeline.specs.Placement.{seconds_at}
+use Rattle.timeline.specs.ShownWalls.{seconds_at}
 use Rattle.interim.specs.declared.errors.DateError.{DateError}
 use Rattle.interim.specs.declared.errors.DateError.TheVariants as errors
 use Rattle.interim.specs.declared.types.DateSpec.{DateSpec}
@@ -26,7 +26,8 @@ use Rattle.streams.specs.Report.{OneReply}
 use Rattle.tell.specs.Fields.{LineFields, fields_of}
 use Rattle.tell.specs.Moments.{IsBase, Says}
 use Rattle.tell.specs.Voices.{Voices, voice_for, voices_of, IsToldBy}
-use Rattle.tell.specs.Replies.{Reply, BadLine, UnknownZone, BadBase, Unlawful, Fault, Moment, Tale, IsTale, IsTold, IsMomentOfWall, TellsPhrase, IsReplyOf, IsReplyIn, lead}
+use Rattle.tell.specs.Replies.{Reply, BadLine, UnknownZone, BadBase, Unlawful, Fault, Moment, IsTold, IsMomentOfWall, TellsPhrase, IsReplyOf, IsReplyIn}
+use Rattle.tell.specs.Tales.{Tale, IsTale, lead}
 use Rattle.tell.specs.ReplyTexts.{reply_text}
 use Rattle.tell.specs.Ago.{IsAgoReply, seconds_of}
 use Rattle.timeago.specs.Settings.{three_count_settings}

@@ -6,7 +6,8 @@ use Rattle.civil.specs.Clock.{IsWallSecond}
 use Rattle.zoned.specs.Placing as seconds
 use Rattle.timeline.specs.Zone.{PlainZone}
 use Rattle.timeline.specs.Laws.{IsLawful}
-use Rattle.timeline.specs.Placement.{IsPlaced, seconds_at}
+use Rattle.timeline.specs.Placement.{IsPlaced}
+use Rattle.timeline.specs.ShownWalls.{seconds_at}
 use Rattle.interim.specs.declared.errors.DateError.{DateError}
 use Rattle.interim.specs.declared.errors.DateError.TheVariants as errors
 use Rattle.interim.specs.declared.types.DateSpec.{DateSpec}

@@ -2,7 +2,7 @@
 use Rattle.std.proofs.Common.{◌≡◌, ℕ, suc, ◌-◌, ◌<◌, ◌≤◌, ◌==◌, pos, neg_ℤ, List, [], ◌∷◌, ◌++◌, length, Some, None, Ok, refl, ap, ◌∙◌, Bool, true, false, if◌then◌else◌, arith, codes, decimal, append_assoc, length-append}
 use Rattle.tongues.specs.Text.{text}
 use Rattle.tongues.specs.Units.{unit_size}
-use Rattle.tongues.specs.Languages.{english}
+use Rattle.tongues.specs.GermanicLanguages.{english}
 use Rattle.tongues.specs.declared.unit.TimeUnit.{TimeUnit}
 use Rattle.tongues.specs.declared.unit.TimeUnit.TheVariants as u
 use Rattle.timeago.specs.Laws.{DefaultTexts}
@@ -13,11 +13,14 @@ use Rattle.interim.specs.declared.types.Interval.{Interval}
 use Rattle.interim.specs.declared.types.Interval.TheVariants.{Seconds, Days, Months}
 use Rattle.interim.specs.declared.types.DateSpec.TheVariants.{Relative}
 use Rattle.interim.specs.Intervals.{scaled}
-use Rattle.interim.specs.DatePart.{date_part, first, head, number_head, number_then_word, units_on}
+use Rattle.interim.specs.DatePart.{date_part, first, head}
+use Rattle.interim.specs.NumberHeads.{number_head, number_then_word}
+use Rattle.interim.specs.CountedDates.{units_on}
 use Rattle.interim.specs.Grammar.{both_parts, parts_of, duration_of, interval_of}
-use Rattle.interim.specs.Steps.{follows}
+use Rattle.interim.specs.ReadingSteps.{follows}
 use Rattle.interim.specs.TimePart.{time_part, whole_time}
-use Rattle.interim.specs.Tokens.{Token, Number, Word, more, kind_of, split_at, tokens, tokens_of, phrase_tokens}
+use Rattle.interim.specs.TokenKinds.{Token, Number, Word}
+use Rattle.interim.specs.Tokens.{more, kind_of, split_at, tokens, tokens_of, phrase_tokens}
 use Rattle.interim.specs.Words.{month_of, unit_of, is_ago}
 use Rattle.tell.specs.ReadBack.{ToldWordsAreReadBack, SaysBack, interval_of_unit}
 use Rattle.tell.proofs.ReadBackTokens.{at, number_tokens}

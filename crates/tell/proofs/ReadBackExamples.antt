@@ -2,9 +2,11 @@
 use Rattle.std.proofs.Common.{pos, refl, codes}
 use Rattle.tongues.specs.declared.unit.TimeUnit.TheVariants as u
 use Rattle.interim.specs.declared.types.Interval.TheVariants.{Days, Months}
-use Rattle.interim.specs.DatePart.{date_part, first, head, number_head, number_then_word, units_on}
+use Rattle.interim.specs.DatePart.{date_part, first, head}
+use Rattle.interim.specs.NumberHeads.{number_head, number_then_word}
+use Rattle.interim.specs.CountedDates.{units_on}
 use Rattle.interim.specs.Grammar.{both_parts, parts_of, duration_of}
-use Rattle.interim.specs.Steps.{follows}
+use Rattle.interim.specs.ReadingSteps.{follows}
 use Rattle.interim.specs.TimePart.{time_part, whole_time}
 use Rattle.interim.specs.Tokens.{more, kind_of, split_at, tokens, tokens_of}
 use Rattle.interim.specs.Words.{month_of, unit_of, is_ago}

@@ -6,7 +6,9 @@ use Rattle.std.proofs.lemmas.Fmt.{digits_decimal, digits_value-decimal, length-d
 use Rattle.std.proofs.lemmas.List.Sums.{take_while-cons}
 use Rattle.std.proofs.lemmas.Str.Parse.{IsNumeralModel, numerals_by_fold}
 use Rattle.interim.specs.declared.errors.Span.{Span}
-use Rattle.interim.specs.Tokens.{Token, Kind, Number, more, skip, split_at, onward, tokens, kind_of, is_digit, is_blank, decimal_from}
+use Rattle.interim.specs.TokenKinds.{Token, Kind, Number}
+use Rattle.interim.specs.Tokens.{more, split_at, onward, tokens, kind_of}
+use Rattle.interim.specs.Characters.{skip, is_digit, is_blank, decimal_from}
 
 -- ---- digits
 

@@ -11,7 +11,10 @@ use Rattle.streams.specs.declared.status.Status.{Status}
 use Rattle.streams.specs.declared.status.Status.TheVariants.{Bundle}
 use Rattle.tongues.specs.declared.any.AnyLanguage.{AnyLanguage}
 use Rattle.tell.specs.ReplyTexts.{IsReply}
-use Rattle.tell.specs.Run.{two_words, three_words, command_of, bundle_words, bundle_zones, planned, IsReplyWith}
+use Rattle.tell.specs.Commands.{two_words, three_words, command_of}
+use Rattle.tell.specs.BundleZones.{bundle_words, bundle_zones}
+use Rattle.tell.specs.Run.{planned}
+use Rattle.tell.specs.Reports.{IsReplyWith}
 use Rattle.tell.specs.declared.program.Command.TheVariants.{At}
 
 over_limit : (b : List ℕ) → 4194304 < length b → bundle_zones b ≡ None

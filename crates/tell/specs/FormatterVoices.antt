@@ -1,4 +1,4 @@
--- How two formatters tell distances.
+-- How two formatters tell distances (docs/ARCHITECTURE.md, "Answers").
 use Rattle.tongues.specs.Speech.{Speech}
 use Rattle.timeago.specs.Formatters.{settings_of, language_of}
 use Rattle.timeago.specs.declared.formatter.Formatter.{Formatter}

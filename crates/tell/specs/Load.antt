@@ -1,54 +1,11 @@
--- A large input from a number, and what its answers come to (docs/ARCHITECTURE.md, "Large inputs").
-use Rattle.std.specs.Prelude.{◌≡◌, ℕ, zero, suc, ◌+◌, ◌*◌, ◌/◌, ◌%◌, ◌==◌, Bool, false, if◌then◌else◌, List, [], ◌∷◌, ◌++◌, None, ℤ, pos, ◌-ℤ◌, codes}
+-- The lines of a large input, and what their answers come to (docs/ARCHITECTURE.md, "Large inputs").
+use Rattle.std.specs.Prelude.{◌≡◌, ℕ, zero, suc, ◌+◌, ◌%◌, ◌==◌, Bool, false, if◌then◌else◌, List, [], ◌∷◌, ◌++◌, codes}
 use Rattle.std.specs.Fmt.{decimal}
-use Rattle.tongues.specs.Languages.{english}
-use Rattle.timeline.specs.Zone.{PlainZone}
-use Rattle.zoneinfo64.specs.NamedZone.{NamedZone, IsZone}
+use Rattle.tongues.specs.GermanicLanguages.{english}
 use Rattle.streams.specs.Lines.{lines, ended}
 use Rattle.streams.specs.Report.{IsReport}
 use Rattle.tell.specs.ReplyTexts.{IsReply}
-
--- what f gives for 1, 2 and so on, up to a number
-abbrev pub up_to : {A : Type 0} → (ℕ → A) → ℕ → List A
-up_to f zero = []
-up_to f (suc n) = up_to f n ++ f (n + 1) ∷ []
-
--- ---- the zones
-
--- one decimal digit of a number, as a character
-abbrev pub digit : ℕ → ℕ → ℕ
-digit n place = 48 + n / place % 10
-
--- `Load/` and the number in five digits
-abbrev pub zone_name : ℕ → List ℕ
-zone_name n = codes "Load/" ++ digit n 10000 ∷ digit n 1000 ∷ digit n 100 ∷ digit n 10 ∷ digit n 1 ∷ []
-
--- in seconds east of Greenwich
-abbrev pub load_offset : ℕ → ℤ
-load_offset n = pos (900 * (n % 97)) -ℤ pos 43200
-
--- one offset at all seconds: no transition and no rule
-abbrev pub fixed_zone : ℤ → PlainZone
-fixed_zone offset = record {
-  initial = record { offset = offset; rule_applies = false };
-  table = [];
-  early = 0;
-  late = 0;
-  rule = None;
-  type_offsets = (offset, pos 0) ∷ [];
-  type_map = [];
-  links = [];
-}
-
--- the nth zone: its offset holds at all seconds
-abbrev pub load_zone : ℕ → NamedZone
-load_zone n = record { name = zone_name n; region = codes "001"; place = IsZone (fixed_zone (load_offset n)) }
-
--- the zones 1 to so many
-abbrev pub load_zones : ℕ → List NamedZone
-load_zones count = up_to load_zone count
-
--- ---- the lines
+use Rattle.tell.specs.LoadZones.{zone_name, load_zones}
 
 -- one of four phrases, in turn
 abbrev pub load_phrase : ℕ → List ℕ
@@ -65,8 +22,6 @@ load_line n = zone_name n ++ codes "\t1521622800\tuk\t" ++ load_phrase n
 abbrev pub load_input : ℕ → List ℕ
 load_input zero = []
 load_input (suc n) = load_input n ++ load_line (n + 1) ++ 10 ∷ []
-
--- ---- what the answers come to
 
 -- an answer that begins with `!` is a refusal, and any other is a moment
 abbrev pub is_refusal : List ℕ → Bool

@@ -1,4 +1,4 @@
--- A law of the engines: each replies to a line of over 1,024 bytes as to its first 1,025 bytes.
+-- A law of the engines: each replies to a line of over 1,024 bytes as to its first 1,025 bytes (docs/ARCHITECTURE.md, "Lines").
 use Rattle.std.proofs.Common.{◌≡◌, ℕ, ◌<◌, ◌≤◌, List, [], ◌∷◌, length, take, ◌+◌, refl, sym, ◌∙◌, arith, rules, nat_le, nat_eq, cond, Bool, true, false, None}
 use Rattle.std.proofs.lemmas.List.{length-take-le}
 use Rattle.tongues.specs.Speech.{Speech}

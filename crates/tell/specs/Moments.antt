@@ -1,7 +1,7 @@
 -- What a phrase says in a zone from a base: a moment, or why there is none (docs/ARCHITECTURE.md, "Answers").
 use Rattle.std.specs.Prelude.{ℕ, false, List, Result, ℤ, pos, negsuc, ◌≤ℤ◌}
 use Rattle.timeline.specs.Zone.{PlainZone}
-use Rattle.timeline.specs.Placement.{seconds_at}
+use Rattle.timeline.specs.ShownWalls.{seconds_at}
 use Rattle.interim.specs.declared.errors.DateError.{DateError}
 use Rattle.interim.specs.declared.types.Dialect.{Dialect}
 use Rattle.interim.specs.Grammar.{parts_of}

@@ -1,4 +1,4 @@
--- What the definitions keep, as laws.
+-- What the definitions keep, as laws (docs/ARCHITECTURE.md, "Answers").
 use Rattle.std.specs.Prelude.{◌≡◌, ℕ, List, Some, Ok, ℤ}
 use Rattle.tongues.specs.Speech.{Speech}
 use Rattle.timeline.specs.Zone.{PlainZone}
@@ -9,7 +9,8 @@ use Rattle.streams.specs.Report.{OneReply, OneReport}
 use Rattle.tell.specs.Fields.{LineFields}
 use Rattle.tell.specs.Moments.{IsBase, Says}
 use Rattle.tell.specs.Voices.{Voices}
-use Rattle.tell.specs.Replies.{Reply, Moment, Tale, IsTale, IsMomentOfWall, IsReplyIn}
+use Rattle.tell.specs.Replies.{Reply, Moment, IsMomentOfWall, IsReplyIn}
+use Rattle.tell.specs.Tales.{Tale, IsTale}
 use Rattle.tell.specs.ReplyTexts.{IsReply}
 use Rattle.tell.specs.Ago.{IsAgoAnswer, IsAgoReply}
 

@@ -1,7 +1,7 @@
--- What is told of a distance can be read back.
+-- What is told of a distance can be read back (docs/WORDS.md, "What a formatter sets").
 use Rattle.std.specs.Prelude.{◌≡◌, ℕ, ◌*◌, ◌<◌, ◌≤◌, pos, neg_ℤ, List, Option, Some, None, Ok}
 use Rattle.tongues.specs.Units.{unit_size}
-use Rattle.tongues.specs.Languages.{english}
+use Rattle.tongues.specs.GermanicLanguages.{english}
 use Rattle.tongues.specs.declared.unit.TimeUnit.{TimeUnit}
 use Rattle.tongues.specs.declared.unit.TimeUnit.TheVariants as u
 use Rattle.timeago.specs.Settings.{default_settings}

@@ -6,7 +6,8 @@ use Rattle.zoneinfo64.specs.NamedZone.{NamedZone}
 use Rattle.timeline.specs.Fault.{fault_number}
 use Rattle.interim.specs.Texts.{error_text}
 use Rattle.tell.specs.Voices.{voices_of}
-use Rattle.tell.specs.Replies.{Tale, Reply, BadLine, UnknownZone, BadBase, Unlawful, Fault, Moment, IsReplyTo}
+use Rattle.tell.specs.Tales.{Tale}
+use Rattle.tell.specs.Replies.{Reply, BadLine, UnknownZone, BadBase, Unlawful, Fault, Moment, IsReplyTo}
 
 -- after the base, or not
 abbrev pub side_text : Bool → List ℕ

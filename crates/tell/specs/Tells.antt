@@ -1,4 +1,4 @@
--- What `tell` and `tell_in` answer.
+-- What `tell` and `tell_in` answer (docs/ARCHITECTURE.md, "Answers").
 use Rattle.std.specs.Prelude.{Result, Ok, Err, Option, Some, None, List}
 use Rattle.std.specs.String.{string_bytes}
 use Rattle.zoneinfo64.specs.NamedZone.{NamedZone}
@@ -7,7 +7,8 @@ use Rattle.tell.specs.declared.told.TellError.{TellError}
 use Rattle.tell.specs.declared.told.TellError.TheVariants as error
 use Rattle.tell.specs.Fields.{LineFields}
 use Rattle.tell.specs.Voices.{Voices}
-use Rattle.tell.specs.Replies.{Tale, Reply, UnknownZone, BadBase, Unlawful, Fault, Moment, IsReplyIn}
+use Rattle.tell.specs.Tales.{Tale}
+use Rattle.tell.specs.Replies.{Reply, UnknownZone, BadBase, Unlawful, Fault, Moment, IsReplyIn}
 
 -- an answer of `tell` as the moment, its offset there, its side and its words
 abbrev pub tale_of : Told → Tale

@@ -1,4 +1,4 @@
--- How distances are told: to the past and ahead.
+-- How distances are told: to the past and ahead (docs/ARCHITECTURE.md, "Answers").
 use Rattle.std.specs.Prelude.{ℕ, List, Bool, if◌then◌else◌}
 use Rattle.tongues.specs.Speech.{Speech}
 use Rattle.timeago.specs.Settings.{Settings, default_settings, ahead_settings}

@@ -1,6 +1,6 @@
 ghost use Rattle.std.specs.Prelude.{◌≡◌, ◌+◌, ◌*◌, ◌/◌, ◌<◌, ◌≤◌, ◌^◌, ◌==◌, ◌%◌, ℕ, List, length, Some, None, IfOk, IsErrOf, vec_len, nat_lt};
 ghost use Rattle.zoneinfo64.specs.Bundle.{zones_of_words};
-ghost use Rattle.tell.specs.Run.{words_of, bundle_zones};
+ghost use Rattle.tell.specs.BundleZones.{words_of, bundle_zones};
 
 use std::alloc::{AllocError, Global};
 use zoneinfo64::{BinaryDeserializerError, ZoneInfo64};
@@ -29,7 +29,7 @@ fn words(alloc: Global, bytes: &[u8]) -> Result<Vec<u32>, AllocError>
     Ok(words)
 }
 
-#[tactic(auto, unfolding(crate::specs::Run::bundle_zones, crate::specs::Run::bundle_words, zoneinfo64::specs::Bundle::zones_of_words))]
+#[tactic(auto, unfolding(crate::specs::BundleZones::bundle_zones, crate::specs::BundleZones::bundle_words, zoneinfo64::specs::Bundle::zones_of_words))]
 /// The zones of a bundle of at most 4,194,304 bytes, which are given up once their words are there.
 pub fn zones_of_bytes(alloc: Global, bytes: Vec<u8>) -> Result<ZoneInfo64, BundleError>
     requires { vec_len bytes ≤ 4194304 }

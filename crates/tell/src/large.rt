@@ -3,10 +3,11 @@ ghost use Rattle.std.specs.Prelude.{◌≡◌, ℕ, List, ◌+◌, ◌/◌, ◌%
 ghost use Rattle.resb_tree.specs.declared.resource.Resource.TheVariants as r;
 ghost use Rattle.resb_tree.specs.Header.{tree_of};
 ghost use Rattle.resb_tree.specs.declared.resource.Resource.{Resource};
-ghost use Rattle.resb.specs.Drafts.{Holds};
-ghost use Rattle.resb.specs.Writing.{key_pool};
-ghost use Rattle.tell.specs.Run.{words_of};
-ghost use Rattle.tell.specs.Load.{up_to, zone_name, load_offset, load_phrase, load_line, load_input};
+ghost use Rattle.resb.specs.DraftRows.{Holds};
+ghost use Rattle.resb.specs.TreeKeys.{key_pool};
+ghost use Rattle.tell.specs.BundleZones.{words_of};
+ghost use Rattle.tell.specs.LoadZones.{up_to, zone_name, load_offset};
+ghost use Rattle.tell.specs.Load.{load_phrase, load_line, load_input};
 ghost use Rattle.tell.specs.Inside.LoadTree.{zone_tree, name_tree, region_tree, load_tree};
 
 use resb::{Draft, ResbError};

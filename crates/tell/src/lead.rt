@@ -3,7 +3,7 @@ ghost use Rattle.std.specs.Prelude.{◌≡◌, ◌<◌, int_lt, pos, unsigned_ab
 ghost use Rattle.std.specs.Duration.{as_nanos};
 ghost use Rattle.civil.specs.Clock.{IsWallSecond};
 ghost use Rattle.tell.specs.Moments.{IsBase};
-ghost use Rattle.tell.specs.Replies.{lead};
+ghost use Rattle.tell.specs.Tales.{lead};
 
 use std::time::Duration;
 

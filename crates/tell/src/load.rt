@@ -1,14 +1,15 @@
 //! The command `load`: a large input is made and run, and what its answers come to is written.
 ghost use Rattle.std.specs.Prelude.{◌≡◌, ◌+◌, List, ℕ, IfOk};
 ghost use Rattle.std.specs.Io.KnownBytes.{Appends};
-ghost use Rattle.tongues.specs.Languages.{english};
+ghost use Rattle.tongues.specs.GermanicLanguages.{english};
 ghost use Rattle.streams.specs.Causes.{Rose};
 ghost use Rattle.streams.specs.Ends.{EndsAs};
 ghost use Rattle.streams.specs.Lines.{lines as lines_of, ended};
 ghost use Rattle.streams.specs.Report.{IsReport};
 ghost use Rattle.tell.specs.ReplyTexts.{IsReply};
-ghost use Rattle.tell.specs.Load.{load_zones, load_input, summary, IsLoadSummary};
-ghost use Rattle.tell.specs.Run.{IsGainedByLoad};
+ghost use Rattle.tell.specs.LoadZones.{load_zones};
+ghost use Rattle.tell.specs.Load.{load_input, summary, IsLoadSummary};
+ghost use Rattle.tell.specs.Standing.{IsGainedByLoad};
 
 use crate::large::{bundle, input};
 use crate::program::at;

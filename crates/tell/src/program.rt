@@ -7,7 +7,11 @@ ghost use Rattle.streams.specs.Causes.{Rose};
 ghost use Rattle.streams.specs.Ends.{EndsAs, EndsBy};
 ghost use Rattle.streams.specs.Stands.{Stands};
 ghost use Rattle.streams.specs.Whole.{TookAtMost, TookMore};
-ghost use Rattle.tell.specs.Run.{load_count, two_words, three_words, command_of, planned, bundle_zones, IsReplyWith, Reported, IsReported, StandsAfter, RefusesBundle, AcceptsBundle, ReadFaultRose, NeedsNoBundle, ReadsNothing};
+ghost use Rattle.tell.specs.Commands.{load_count, two_words, three_words, command_of};
+ghost use Rattle.tell.specs.Run.{planned, RefusesBundle, AcceptsBundle, ReadFaultRose};
+ghost use Rattle.tell.specs.BundleZones.{bundle_zones};
+ghost use Rattle.tell.specs.Reports.{IsReplyWith, Reported, IsReported};
+ghost use Rattle.tell.specs.Standing.{StandsAfter, NeedsNoBundle, ReadsNothing};
 ghost use Rattle.tell.specs.declared.program.Command.{Command};
 ghost use Rattle.tell.specs.declared.program.Command.TheVariants as command;
 

@@ -11,7 +11,8 @@ ghost use Rattle.std.specs.String.{string_bytes};
 ghost use Rattle.std.specs.Duration.{as_nanos};
 ghost use Rattle.tell.specs.Voices.{IsToldBy, voice_for};
 ghost use Rattle.tell.specs.Moments.{IsBase};
-ghost use Rattle.tell.specs.Replies.{IsReplyIn, IsTale};
+ghost use Rattle.tell.specs.Replies.{IsReplyIn};
+ghost use Rattle.tell.specs.Tales.{IsTale};
 ghost use Rattle.tell.specs.Tells.{Tells, TellsBundle, tale_of};
 ghost use Rattle.tell.specs.Inside.MomentView.{IsInCalendar};
 

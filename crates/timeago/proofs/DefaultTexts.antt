@@ -5,7 +5,7 @@ use Rattle.std.proofs.lemmas.Bool.{le-ltb}
 use Rattle.std.proofs.lemmas.Bool.Decides.{nat_tests}
 use Rattle.tongues.specs.Units.{unit_size}
 use Rattle.tongues.specs.Speech.{Speech}
-use Rattle.tongues.specs.Languages.{english}
+use Rattle.tongues.specs.GermanicLanguages.{english}
 use Rattle.timeago.specs.Settings.{Settings, default_settings, ahead_settings}
 use Rattle.timeago.specs.Counts.{Counts, allowed_unit, biggest, lower, higher, u64_max}
 use Rattle.timeago.specs.Words.{IsWords, told_text}

@@ -3,7 +3,10 @@ use Rattle.std.proofs.Common.{◌≡◌, inl, inr, Some, [], ◌∷◌, refl, co
 use Rattle.std.specs.Fmt.{digits}
 use Rattle.tongues.specs.Text.{text}
 use Rattle.tongues.specs.Speech.{Speech, spoken}
-use Rattle.tongues.specs.Languages.{basque, english, japanese, spanish}
+use Rattle.tongues.specs.Languages.{basque}
+use Rattle.tongues.specs.GermanicLanguages.{english}
+use Rattle.tongues.specs.AsianLanguages.{japanese}
+use Rattle.tongues.specs.RomanceLanguages.{spanish}
 use Rattle.timeago.specs.Settings.{default_settings}
 use Rattle.timeago.specs.Counts.{allowed_unit, u64_max}
 use Rattle.timeago.specs.Words.{IsWords}

@@ -1,4 +1,4 @@
--- What a text holds after something was appended to it.
+-- What a text holds after something was appended to it (docs/WORDS.md, "The text").
 use Rattle.std.specs.Prelude.{◌≡◌, ℕ, List, ◌++◌}
 
 -- what was added at the end keeps a fact

@@ -1,4 +1,4 @@
--- The language of an ISO 639-1 code.
+-- The language of an ISO 639-1 code (docs/WORDS.md, "Languages").
 use Rattle.std.specs.Prelude.{ℕ, List, Option, Some, None, codes, if◌then◌else◌}
 use Rattle.std.specs.Str.{bytes_eq}
 use Rattle.tongues.specs.declared.any.AnyLanguage.{AnyLanguage}

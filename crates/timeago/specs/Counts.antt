@@ -1,4 +1,4 @@
--- The counts by which a distance is told.
+-- The counts by which a distance is told (docs/WORDS.md, "Counts").
 use Rattle.std.specs.Prelude.{◌≡◌, ℕ, ◌+◌, ◌-◌, ◌*◌, ◌<◌, ◌≤◌, ◌⊎◌, List, [], ◌∷◌, if◌then◌else◌, nat_le}
 use Rattle.tongues.specs.Units.{unit_size}
 use Rattle.timeago.specs.Settings.{Settings}

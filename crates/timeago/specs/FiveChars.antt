@@ -1,4 +1,4 @@
--- A distance in five characters.
+-- A distance in five characters (docs/WORDS.md, "Five characters, and styles").
 use Rattle.std.specs.Prelude.{◌≡◌, ℕ, ◌+◌, ◌/◌, ◌%◌, ◌<◌, nat_lt, nat_le, ◌==◌, if◌then◌else◌, List, [], ◌∷◌, ◌++◌, length, All, codes}
 
 -- a number below 100 in two decimal digits

@@ -1,4 +1,4 @@
--- What a formatter shows: its settings and its language.
+-- What a formatter shows: its settings and its language (docs/WORDS.md, "What a formatter sets").
 use Rattle.std.specs.Prelude.{option_copied}
 use Rattle.std.specs.Duration.{as_nanos}
 use Rattle.timeago.specs.Settings.{Settings}

@@ -1,8 +1,8 @@
--- What told distances keep.
+-- What told distances keep (docs/WORDS.md, "The text").
 use Rattle.std.specs.Prelude.{◌≡◌, ℕ, ◌+◌, ◌*◌, ◌<◌, ◌≤◌, Bool, if◌then◌else◌, List, ◌++◌, codes, decimal}
 use Rattle.tongues.specs.Units.{unit_size}
 use Rattle.tongues.specs.Speech.{Speech}
-use Rattle.tongues.specs.Languages.{english}
+use Rattle.tongues.specs.GermanicLanguages.{english}
 use Rattle.timeago.specs.Settings.{Settings, default_settings, ahead_settings}
 use Rattle.timeago.specs.Counts.{Counts, allowed_unit}
 use Rattle.timeago.specs.Words.{IsWords}

@@ -1,4 +1,4 @@
--- What a formatter is set to.
+-- What a formatter is set to (docs/WORDS.md, "What a formatter sets").
 use Rattle.std.specs.Prelude.{ℕ, Option, Some, None, List, []}
 use Rattle.tongues.specs.declared.unit.TimeUnit.{TimeUnit}
 use Rattle.tongues.specs.declared.unit.TimeUnit.TheVariants as u

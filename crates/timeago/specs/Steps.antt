@@ -1,4 +1,4 @@
--- The counts and their text one after the other, as they are worked out.
+-- The counts and their text one after the other, as they are worked out (docs/WORDS.md, "Counts").
 use Rattle.std.specs.Prelude.{◌==◌, ◌||◌, ℕ, zero, suc, ◌+◌, ◌-◌, ◌*◌, ◌/◌, min, nat_lt, if◌then◌else◌, Bool, List, [], ◌∷◌, ◌++◌}
 use Rattle.tongues.specs.Units.{unit_size}
 use Rattle.tongues.specs.Speech.{Speech}

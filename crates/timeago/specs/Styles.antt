@@ -1,6 +1,6 @@
--- The styles of a distance in English.
+-- The styles of a distance in English (docs/WORDS.md, "Five characters, and styles").
 use Rattle.std.specs.Prelude.{◌≡◌, ℕ, ◌/◌, List, Some, codes}
-use Rattle.tongues.specs.Languages.{english}
+use Rattle.tongues.specs.GermanicLanguages.{english}
 use Rattle.timeago.specs.Settings.{default_settings}
 use Rattle.timeago.specs.Words.{IsWords}
 use Rattle.timeago.specs.FiveChars.{five_chars}

@@ -1,4 +1,4 @@
--- How much of a distance its counts tell.
+-- How much of a distance its counts tell (docs/WORDS.md, "Counts").
 use Rattle.std.specs.Prelude.{◌≡◌, ℕ, ◌+◌, ◌*◌, ◌<◌, ◌≤◌, ◌⊎◌, ⊤, nat_lt, MatchBool, List, [], ◌∷◌}
 use Rattle.tongues.specs.Units.{unit_size}
 use Rattle.tongues.specs.Speech.{Speech}

@@ -1,4 +1,4 @@
--- The words of a distance.
+-- The words of a distance (docs/WORDS.md, "The text").
 use Rattle.std.specs.Prelude.{◌≡◌, ℕ, nat_lt, MatchBool, if◌then◌else◌, List, [], ◌∷◌, ◌++◌, codes, decimal, unwrap_or}
 use Rattle.std.specs.Str.{bytes_eq}
 use Rattle.tongues.specs.Speech.{Speech}

@@ -1,7 +1,7 @@
 ghost use Rattle.std.specs.Prelude.{◌≡◌, ◌<◌, ◌≤◌, ◌++◌, ◌↔◌, IsTrue, IfOk, OnOk, OnErr, Some, [], unwrap_or, codes};
 ghost use Rattle.std.specs.String.{string_bytes};
 ghost use Rattle.std.specs.Duration.{as_nanos};
-ghost use Rattle.tongues.specs.Languages.{english};
+ghost use Rattle.tongues.specs.GermanicLanguages.{english};
 ghost use Rattle.tongues.specs.Units.{unit_size};
 ghost use Rattle.timeago.specs.Settings.{default_settings};
 ghost use Rattle.timeago.specs.Counts.{allowed_unit, lower, higher};

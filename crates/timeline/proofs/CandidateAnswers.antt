@@ -7,7 +7,8 @@ use Rattle.timeline.specs.declared.offset.PossibleOffset.{PossibleOffset}
 use Rattle.timeline.specs.declared.offset.PossibleOffset.TheVariants as possible
 use Rattle.timeline.specs.Zone.{PlainZone}
 use Rattle.timeline.specs.Timeline.{entry_at, before_entry, offset_of}
-use Rattle.timeline.specs.Laws.{IsLawful, step}
+use Rattle.timeline.specs.Laws.{IsLawful}
+use Rattle.timeline.specs.Neighbours.{step}
 use Rattle.timeline.specs.Lookups.{AnswersWall}
 use Rattle.timeline.specs.Inside.AnswerSteps.{answer_by, answer_from}
 use Rattle.timeline.proofs.Entries.{int_lt-true, int_lt-false}

@@ -9,8 +9,9 @@ use Rattle.timeline.specs.declared.offset.Transition.{Transition}
 use Rattle.timeline.specs.Zone.{PlainZone, PlainRule}
 use Rattle.timeline.specs.Timeline.{entry_at, table_place}
 use Rattle.timeline.specs.Placement.{IsInStretch}
-use Rattle.timeline.specs.Laws.{IsLawful, Step, IsNear, EndsBefore}
-use Rattle.timeline.specs.Promises.{IsOfYear, IsRuleEntry, HasTwoCandidates}
+use Rattle.timeline.specs.Laws.{IsLawful, EndsBefore}
+use Rattle.timeline.specs.Neighbours.{Step, IsNear}
+use Rattle.timeline.specs.WallPromises.{IsOfYear, IsRuleEntry, HasTwoCandidates}
 use Rattle.timeline.proofs.ChainWalls.{IsBehind, IsAhead, Stretches, not_behind, not_ahead}
 use Rattle.timeline.proofs.TimelineEntries.{Stands, in_table, is_first, is_second, stands, is_there, table_entry, before_next}
 use Rattle.timeline.proofs.TimelineRises.{if_some, neighbours, step_of, same_rule}

@@ -1,7 +1,7 @@
 -- Transitions in a row, as numbers: what neighbours keep decides what is in force when, and which seconds show a wall second.
 use Rattle.std.proofs.Common.{◌≡◌, ℕ, zero, suc, ◌<◌, ◌≤◌, ◌⊎◌, inl, inr, refl, ℤ, ◌<ℤ◌, ◌≤ℤ◌, arith}
 use Rattle.std.proofs.lemmas.Int.{ints}
-use Rattle.timeline.specs.Laws.{Step, IsNear, IsWalled}
+use Rattle.timeline.specs.Neighbours.{Step, IsNear, IsWalled}
 use Rattle.timeline.proofs.Entries.{below_or_not}
 
 -- before the nth transition `offset n` holds, and from its second on `offset (suc n)`

@@ -2,7 +2,7 @@
 use Rattle.std.proofs.Common.{◌≡◌, ℕ, zero, suc, ◌<◌, ◌≤◌, ◌⊎◌, inl, inr, refl, ℤ, ◌+ℤ◌, ◌-ℤ◌, ◌<ℤ◌, ◌≤ℤ◌, arith}
 use Rattle.std.proofs.lemmas.Int.{ints}
 use Rattle.std.proofs.lemmas.Bool.{cases_lt}
-use Rattle.timeline.specs.Laws.{Step, old_wall, new_wall, IsWalled}
+use Rattle.timeline.specs.Neighbours.{Step, old_wall, new_wall, IsWalled}
 use Rattle.timeline.proofs.Entries.{below_or_not}
 use Rattle.timeline.proofs.Chain.{IsChain, IsAt, Stops, step_at, last_or_before, is_at, stops, walled}
 

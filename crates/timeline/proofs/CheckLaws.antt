@@ -11,7 +11,9 @@ use Rattle.timeline.specs.Timeline.{offset_of}
 use Rattle.timeline.specs.Inside.LeastFaults.{TellsLeast}
 use Rattle.timeline.proofs.LeastFaults.{Told, tells-same}
 use Rattle.timeline.proofs.TimelineEntries.{is_there}
-use Rattle.timeline.specs.Laws.{Step, IsSmall, IsNear, IsWalled, EndsBefore, LiesIn}
+use Rattle.timeline.specs.Neighbours.{Step, IsNear, IsWalled}
+use Rattle.timeline.specs.TableLaws.{IsSmall}
+use Rattle.timeline.specs.Laws.{EndsBefore, LiesIn}
 use Rattle.timeline.specs.Inside.CheckSteps.{walls, AreNear, AreWalled, EndBefore, LieIn, IsSecondAt, IsSecondBefore, EntryKeeps, KeepsAt, TableKeeps, table_walls, walls_before}
 
 -- walls by their parts

@@ -11,7 +11,9 @@ use Rattle.timeline.specs.declared.check.Walls as checked
 use Rattle.timeline.specs.Zone.{PlainRule, PlainZone}
 use Rattle.timeline.specs.Rule.{second_entry}
 use Rattle.timeline.specs.Timeline.{offset_of, offset_or, rule_entry, before_entry}
-use Rattle.timeline.specs.Laws.{Step, step, IsSmall, IsNear, IsWalled, EndsBefore, KeepsParts, KeepsOrder, IsLawful}
+use Rattle.timeline.specs.Neighbours.{Step, step, IsNear, IsWalled}
+use Rattle.timeline.specs.TableLaws.{IsSmall, KeepsParts, KeepsOrder}
+use Rattle.timeline.specs.Laws.{EndsBefore, IsLawful}
 use Rattle.timeline.specs.Fault.{Keeps, IsLeastBroken}
 use Rattle.timeline.specs.Inside.LeastFaults.{TellsLeast}
 use Rattle.timeline.specs.Inside.CheckSteps.{walls, AreNear, AreWalled, EndBefore, TableKeeps, table_before, table_walls, walls_before, SizeKept, RuleKeeps, YearsKeep}

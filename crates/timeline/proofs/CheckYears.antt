@@ -11,7 +11,8 @@ use Rattle.timeline.specs.declared.check.Walls as checked
 use Rattle.timeline.specs.Zone.{PlainRule}
 use Rattle.timeline.specs.Rule.{start_entry, end_entry, start_is_first, first_entry, second_entry}
 use Rattle.timeline.specs.Timeline.{offset_of}
-use Rattle.timeline.specs.Laws.{Step, step, IsNear, IsWalled, LiesIn}
+use Rattle.timeline.specs.Neighbours.{Step, step, IsNear, IsWalled}
+use Rattle.timeline.specs.Laws.{LiesIn}
 use Rattle.timeline.specs.Inside.LeastFaults.{TellsLeast}
 use Rattle.timeline.specs.Inside.KeptRules.{IsYearOf}
 use Rattle.timeline.specs.Inside.CheckSteps.{walls, example_day, kind_seconds, PairKeeps, YearKeeps, YearsKeep}

@@ -9,7 +9,7 @@ use Rattle.civil.specs.Calendar.{is_leap_year, year_start, days_of_months, weekd
 use Rattle.civil.proofs.YearKinds.{weekday_of-parts, weekday_of-is, year_kind-is, days_of_months-leap}
 use Rattle.civil.proofs.SignedLemmas.{signed_arith, one_part}
 use Rattle.timeline.specs.Zone.{DateRule}
-use Rattle.timeline.specs.Rule.{code_weekday, anchor, first_on, last_on, rule_date}
+use Rattle.timeline.specs.RuleDays.{code_weekday, anchor, first_on, last_on, rule_date}
 use Rattle.timeline.specs.Kinds.{place_in_kind}
 use Rattle.timeline.proofs.RuleKinds.{place_in_kind-is}
 

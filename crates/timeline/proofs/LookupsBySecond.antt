@@ -11,7 +11,7 @@ use Rattle.timeline.specs.Timeline.{entry_at, before_entry, offset_at, offset_of
 use Rattle.timeline.specs.Laws.{IsLawful}
 use Rattle.timeline.specs.Inside.AnswerSteps.{offset_in_year}
 use Rattle.timeline.proofs.Entries.{int_lt_true, int_lt_false}
-use Rattle.timeline.specs.Promises.{IsOfYear}
+use Rattle.timeline.specs.WallPromises.{IsOfYear}
 use Rattle.timeline.proofs.Chain.{is_at}
 use Rattle.timeline.proofs.TimelineEntries.{IsRuleYear, table_entry, first_at, second_at, before_next, entry_count, entry_within, entry_there, table_counted, CountsTo, counts_to}
 use Rattle.timeline.proofs.TimelineRises.{if_some, before_first, before_second, since_is, lawful_chain}

@@ -12,7 +12,7 @@ use Rattle.timeline.specs.Timeline.{entry_at, before_entry, offset_of, table_pla
 use Rattle.timeline.specs.Laws.{IsLawful}
 use Rattle.timeline.specs.Lookups.{AnswersWall}
 use Rattle.timeline.specs.Inside.AnswerSteps.{answer_from}
-use Rattle.timeline.specs.Promises.{IsOfYear}
+use Rattle.timeline.specs.WallPromises.{IsOfYear}
 use Rattle.timeline.proofs.ChainWalls.{IsAhead}
 use Rattle.timeline.proofs.TimelineEntries.{IsRuleYear, is_there, table_entry, first_at, second_at, entry_count, entry_within, table_counted, CountsTo, counts_to}
 use Rattle.timeline.proofs.TimelineRises.{step_of, before_first}

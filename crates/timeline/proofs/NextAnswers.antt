@@ -11,8 +11,9 @@ use Rattle.timeline.specs.declared.lookups.YearEntries.TheVariants as told
 use Rattle.timeline.specs.Zone.{PlainZone, PlainRule}
 use Rattle.timeline.specs.Rule.{first_entry, second_entry}
 use Rattle.timeline.specs.Timeline.{entry_at, before_entry, offset_of, table_place}
-use Rattle.timeline.specs.Laws.{IsLawful, KeepsOrder}
-use Rattle.timeline.specs.Promises.{IsOfYear}
+use Rattle.timeline.specs.Laws.{IsLawful}
+use Rattle.timeline.specs.TableLaws.{KeepsOrder}
+use Rattle.timeline.specs.WallPromises.{IsOfYear}
 use Rattle.timeline.specs.Inside.YearEntries.{entries_in, IsNearestYear, StartsInside}
 use Rattle.timeline.specs.Transitions.{Counts, IsNext, AnswersNext, IsUpTo, IsPrev, AnswersPrev}
 use Rattle.timeline.specs.Inside.TransitionSteps.{FirstIn, FirstFrom, LastBelow, IsYearOf, IsCut, IsTableCut, year_place, is_idle}

@@ -7,10 +7,11 @@ use Rattle.timeline.specs.declared.offset.Transition.{Transition}
 use Rattle.timeline.specs.declared.offset.PossibleOffset.TheVariants as possible
 use Rattle.timeline.specs.Zone.{PlainZone}
 use Rattle.timeline.specs.Timeline.{entry_at, before_entry, offset_at}
-use Rattle.timeline.specs.Placement.{IsFoldOf, IsShownTwice}
+use Rattle.timeline.specs.Placement.{IsFoldOf}
+use Rattle.timeline.specs.ShownWalls.{IsShownTwice}
 use Rattle.timeline.specs.Laws.{IsLawful}
 use Rattle.timeline.specs.Lookups.{AnswersWall}
-use Rattle.timeline.specs.Promises.{AreSides}
+use Rattle.timeline.specs.OffsetPromises.{AreSides}
 use Rattle.timeline.proofs.Chain.{place_of}
 use Rattle.timeline.proofs.TimelineEntries.{entry_there, entry_within, before_next}
 use Rattle.timeline.proofs.TimelineRises.{before_offset, since_is, before_is, after_is, lawful_chain}

@@ -8,7 +8,8 @@ use Rattle.timeline.specs.declared.offset.PossibleOffset.{PossibleOffset}
 use Rattle.timeline.specs.declared.offset.PossibleOffset.TheVariants as possible
 use Rattle.timeline.specs.Zone.{PlainZone}
 use Rattle.timeline.specs.Timeline.{entry_at, before_entry, offset_at, offset_of}
-use Rattle.timeline.specs.Placement.{Shows, IsGapOf, IsFoldOf, IsFirstShown, IsShownOnce, IsShownTwice, IsPlaced}
+use Rattle.timeline.specs.ShownWalls.{Shows, IsFirstShown, IsShownOnce, IsShownTwice}
+use Rattle.timeline.specs.Placement.{IsGapOf, IsFoldOf, IsPlaced}
 use Rattle.timeline.specs.Laws.{IsLawful}
 use Rattle.timeline.specs.Lookups.{IsBetween, AnswersWall, placing}
 use Rattle.timeline.proofs.Entries.{below_or_not}

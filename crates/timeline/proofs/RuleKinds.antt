@@ -8,9 +8,10 @@ use Rattle.civil.proofs.CalendarCycle.{year_start-400}
 use Rattle.civil.proofs.YearKinds.{weekday_of-later, same_kind, days_of_months-leap, kind_below, kind_of_example, year_kind-400}
 use Rattle.timeline.specs.declared.offset.Transition.{Transition}
 use Rattle.timeline.specs.Zone.{DateRule, PlainRule}
-use Rattle.timeline.specs.Rule.{month_start, code_weekday, anchor, first_on, last_on, rule_date, rule_second, start_entry, end_entry, start_is_first, first_entry, second_entry}
+use Rattle.timeline.specs.RuleDays.{month_start, code_weekday, anchor, first_on, last_on, rule_date}
+use Rattle.timeline.specs.Rule.{rule_second, start_entry, end_entry, start_is_first, first_entry, second_entry}
 use Rattle.timeline.specs.Kinds.{place_in_kind}
-use Rattle.timeline.specs.Promises.{IsLater}
+use Rattle.timeline.specs.RulePromises.{IsLater}
 
 -- two choices made alike, between numbers that are d apart
 apart_choice : (p q : Bool) (x y u v d : ℤ) → p ≡ q → x ≡ u +ℤ d → y ≡ v +ℤ d → cond p x y ≡ cond q u v +ℤ d

@@ -5,7 +5,8 @@ use Rattle.timeline.specs.declared.offset.Transition.{Transition}
 use Rattle.timeline.specs.Zone.{PlainZone, PlainRule}
 use Rattle.timeline.specs.Rule.{start_is_first, first_entry, second_entry}
 use Rattle.timeline.specs.Timeline.{Holds, first, entry, entry_at, offset_at}
-use Rattle.timeline.specs.Laws.{IsLawful, IsSmall}
+use Rattle.timeline.specs.Laws.{IsLawful}
+use Rattle.timeline.specs.TableLaws.{IsSmall}
 use Rattle.timeline.proofs.Entries.{last-holds}
 use Rattle.timeline.proofs.TimelineEntries.{Stands, in_table, is_first, is_second, stands}
 use Rattle.timeline.proofs.TimelineRises.{if_some}

@@ -7,7 +7,7 @@ use Rattle.std.proofs.lemmas.List.Sums.{sum_by-cons}
 use Rattle.timeline.specs.declared.offset.Transition.{Transition}
 use Rattle.timeline.specs.Zone.{PlainZone}
 use Rattle.timeline.specs.Timeline.{table_place}
-use Rattle.timeline.specs.Laws.{KeepsOrder}
+use Rattle.timeline.specs.TableLaws.{KeepsOrder}
 use Rattle.timeline.proofs.Entries.{below_or_not}
 use Rattle.timeline.proofs.Chain.{Stops, stops, last_or_before}
 use Rattle.timeline.proofs.TimelineEntries.{is_there, table_entry}

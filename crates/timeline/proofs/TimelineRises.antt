@@ -10,8 +10,9 @@ use Rattle.timeline.specs.declared.offset.Transition.{Transition}
 use Rattle.timeline.specs.Zone.{PlainZone, PlainRule}
 use Rattle.timeline.specs.Rule.{start_is_first, start_entry, end_entry, first_entry, second_entry}
 use Rattle.timeline.specs.Timeline.{entry_at, before_entry, offset_of}
-use Rattle.timeline.specs.Laws.{IsLawful, Step, step, IsNear, IsWalled, EndsBefore, LiesIn, IsYearLawful}
-use Rattle.timeline.specs.Promises.{IsFollowedBy}
+use Rattle.timeline.specs.Laws.{IsLawful, EndsBefore, LiesIn, IsYearLawful}
+use Rattle.timeline.specs.Neighbours.{Step, step, IsNear, IsWalled}
+use Rattle.timeline.specs.EntryPromises.{IsFollowedBy}
 use Rattle.timeline.proofs.Entries.{below_or_not}
 use Rattle.timeline.proofs.Chain.{Follows, IsChain, step_at}
 use Rattle.timeline.proofs.TimelineEntries.{IsRuleYear, Stands, in_table, is_first, is_second, stands, first_at, second_at, before_next, same_second, entry_count, entry_there}

@@ -7,7 +7,8 @@ use Rattle.timeline.specs.declared.offset.Transition.{Transition}
 use Rattle.timeline.specs.Zone.{PlainZone, PlainRule}
 use Rattle.timeline.specs.Rule.{second_entry}
 use Rattle.timeline.specs.Timeline.{entry_at, before_entry, offset_of}
-use Rattle.timeline.specs.Laws.{IsLawful, Step, old_wall, new_wall, EndsBefore}
+use Rattle.timeline.specs.Laws.{IsLawful, EndsBefore}
+use Rattle.timeline.specs.Neighbours.{Step, old_wall, new_wall}
 use Rattle.timeline.proofs.TimelineEntries.{IsRuleYear, Stands, in_table, is_first, is_second, stands, second_at, before_next, same_second}
 use Rattle.timeline.proofs.TimelineRises.{if_some, step_of, LiesInYear, first_lies, second_lies, table_ends, same_rule}
 

@@ -6,9 +6,11 @@ use Rattle.timeline.specs.declared.offset.Offset.{Offset}
 use Rattle.timeline.specs.declared.offset.Transition.{Transition}
 use Rattle.timeline.specs.Zone.{PlainZone}
 use Rattle.timeline.specs.Timeline.{Holds, first, entry, entry_at, before_entry, offset_at, offset_of}
-use Rattle.timeline.specs.Placement.{Shows, IsNeverShown, IsShownOnce, IsGapOf, IsFoldOf, IsInNoGap, IsSkippedAt, IsAcross, IsRepeatedAt, IsPlaced, Showing, once, twice, never}
+use Rattle.timeline.specs.ShownWalls.{Shows, IsNeverShown, IsShownOnce}
+use Rattle.timeline.specs.Placement.{IsGapOf, IsFoldOf, IsInNoGap, IsSkippedAt, IsAcross, IsRepeatedAt, IsPlaced, Showing, once, twice, never}
 use Rattle.timeline.specs.Lookups.{LieAround}
-use Rattle.timeline.specs.Laws.{IsLawful, Step}
+use Rattle.timeline.specs.Laws.{IsLawful}
+use Rattle.timeline.specs.Neighbours.{Step}
 use Rattle.timeline.proofs.Entries.{last-holds}
 use Rattle.timeline.proofs.Chain.{IsAt, step_at, place_of}
 use Rattle.timeline.proofs.ChainWalls.{Skips, Repeats, not_behind, not_ahead, LiesBetween, LiesAround, around_gap, around_fold, ShowsAfter, between_shown, between_only, gap_never, fold_earlier, fold_later, fold_only, WallPlace, in_between, in_gap, in_fold, wall_place}

@@ -13,7 +13,7 @@ use Rattle.timeline.specs.Timeline.{offset_at, offset_of}
 use Rattle.timeline.specs.Laws.{IsLawful}
 use Rattle.timeline.specs.Lookups.{AnswersWall}
 use Rattle.timeline.specs.Inside.AnswerSteps.{answer_from, offset_in_year}
-use Rattle.timeline.specs.Promises.{IsOfYear}
+use Rattle.timeline.specs.WallPromises.{IsOfYear}
 use Rattle.timeline.specs.Inside.YearEntries.{rule_entries_in, entries_in, IsNearestYear, inside, before, after, StartsInside}
 use Rattle.timeline.proofs.Entries.{int_lt_true, int_lt_false, int_lt-true, int_lt-false}
 use Rattle.timeline.proofs.TimelineEntries.{same_second}

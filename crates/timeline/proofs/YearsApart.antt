@@ -6,7 +6,9 @@ use Rattle.timeline.specs.declared.fault.ZoneFault.{ZoneFault}
 use Rattle.timeline.specs.Zone.{PlainRule}
 use Rattle.timeline.specs.Rule.{first_entry, second_entry}
 use Rattle.timeline.specs.Timeline.{offset_of}
-use Rattle.timeline.specs.Laws.{Step, step, IsSmall, IsNear, IsWalled, LiesIn}
+use Rattle.timeline.specs.Neighbours.{Step, step, IsNear, IsWalled}
+use Rattle.timeline.specs.TableLaws.{IsSmall}
+use Rattle.timeline.specs.Laws.{LiesIn}
 use Rattle.timeline.specs.Inside.CheckSteps.{YearKeeps}
 use Rattle.timeline.specs.Inside.Apart.{LieApart}
 use Rattle.timeline.proofs.LeastFaults.{all_kept}

@@ -7,7 +7,8 @@ use Rattle.civil.proofs.CalendarLemmas.{year_start-closed}
 use Rattle.timeline.specs.declared.offset.Offset.{Offset}
 use Rattle.timeline.specs.declared.offset.Transition.{Transition}
 use Rattle.timeline.specs.Zone.{DateRule, PlainRule, PlainZone}
-use Rattle.timeline.specs.Rule.{first_on, last_on, rule_date, rule_second, first_entry, second_entry}
+use Rattle.timeline.specs.RuleDays.{first_on, last_on, rule_date}
+use Rattle.timeline.specs.Rule.{rule_second, first_entry, second_entry}
 use Rattle.timeline.specs.Timeline.{entry_at, before_entry}
 use Rattle.timeline.specs.Placement.{IsGapOf}
 use Rattle.timeline.specs.Laws.{KeepsBefore}

@@ -1,4 +1,4 @@
--- The plain rule of the dates that the code keeps.
+-- The plain rule of the dates that the code keeps (docs/ZONES.md, "The date").
 use Rattle.std.specs.Prelude.{ℕ, suc, ℤ, pos, negsuc}
 use Rattle.timeline.specs.Zone.{DateRule, RawRule}
 use Rattle.timeline.specs.declared.dates.RuleDate.{RuleDate}

@@ -3,7 +3,9 @@ use Rattle.std.specs.Prelude.{◌≡◌, ℕ, ◌<◌}
 use Rattle.timeline.specs.declared.fault.ZoneFault.{ZoneFault}
 use Rattle.timeline.specs.declared.fault.ZoneFault.TheVariants.{Parts, Order, Size, Near, Walls, Seam, Before, Year}
 use Rattle.timeline.specs.Zone.{PlainZone}
-use Rattle.timeline.specs.Laws.{KeepsParts, KeepsOrder, KeepsSize, KeepsNear, KeepsWalls, KeepsSeam, KeepsBefore, KeepsYear}
+use Rattle.timeline.specs.TableLaws.{KeepsParts, KeepsOrder, KeepsSize}
+use Rattle.timeline.specs.Neighbours.{KeepsNear, KeepsWalls}
+use Rattle.timeline.specs.Laws.{KeepsSeam, KeepsBefore, KeepsYear}
 
 -- the number of the law that is broken
 abbrev pub fault_number : ZoneFault → ℕ

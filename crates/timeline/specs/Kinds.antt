@@ -2,7 +2,7 @@
 use Rattle.std.specs.Prelude.{ℕ, ℤ, ◌-ℤ◌}
 use Rattle.civil.specs.Calendar.{year_start, example_year}
 use Rattle.timeline.specs.Zone.{DateRule}
-use Rattle.timeline.specs.Rule.{rule_date}
+use Rattle.timeline.specs.RuleDays.{rule_date}
 
 -- the place of a date in a year of this kind, counted in days from 1 January; all years of the kind have the same
 unfoldable pub place_in_kind : DateRule → ℕ → ℤ

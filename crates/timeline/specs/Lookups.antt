@@ -8,7 +8,7 @@ use Rattle.timeline.specs.declared.offset.PossibleOffset.{PossibleOffset}
 use Rattle.timeline.specs.declared.offset.PossibleOffset.TheVariants as possible
 use Rattle.timeline.specs.Zone.{PlainZone}
 use Rattle.timeline.specs.Timeline.{entry_at, offset_at}
-use Rattle.timeline.specs.Placement.{IsNeverShown, IsShownOnce, IsShownTwice}
+use Rattle.timeline.specs.ShownWalls.{IsNeverShown, IsShownOnce, IsShownTwice}
 
 -- the second of an entry, with what holds just before it and from it on
 pub record IsBetween (z : PlainZone) (before after : Offset) (transition : ℤ) : Type 0 where

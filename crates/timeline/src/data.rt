@@ -171,7 +171,8 @@ impl ZoneData {
 impl ZoneData {
     ghost use Rattle.std.specs.Prelude.{◌≡◌, ◌+◌, ◌-◌, ◌*◌, ◌^◌, ◌≤◌, ◌↔◌, ◌-ℤ◌, length, IsOk, IfErr};
     ghost use Rattle.civil.specs.Calendar.{day_of, wall_second};
-    ghost use Rattle.timeline.specs.Laws.{IsLawful, KeepsOrder};
+    ghost use Rattle.timeline.specs.Laws.{IsLawful};
+    ghost use Rattle.timeline.specs.TableLaws.{KeepsOrder};
     ghost use Rattle.timeline.specs.Fault.{IsLeastBroken};
     ghost use Rattle.timeline.specs.Timeline.{offset_at, table_place};
     ghost use Rattle.timeline.specs.Placement.{IsPlaced};

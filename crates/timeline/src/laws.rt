@@ -1,6 +1,9 @@
 //! What the definitions of zones keep, as laws: a call does nothing, and its contract is the law.
 
-ghost use Rattle.timeline.specs.Promises.{LastEntryHolds, OneOffsetHolds, OneVerdict, PlacedOnce, EntriesRise, WallSecondsShow, WallSecondsArePlaced, OffsetsAreSmall, AnswersPlace, TwoCandidates, RuleDaysAreNearest, RulesGoByKind, RulesRepeat, OffsetsChangeAtEntries, EntriesChangeOffsets, SidesHoldAtTheTwo};
+ghost use Rattle.timeline.specs.EntryPromises.{LastEntryHolds, OneOffsetHolds, OneVerdict, PlacedOnce, EntriesRise};
+ghost use Rattle.timeline.specs.WallPromises.{WallSecondsShow, WallSecondsArePlaced, OffsetsAreSmall, AnswersPlace, TwoCandidates};
+ghost use Rattle.timeline.specs.RulePromises.{RuleDaysAreNearest, RulesGoByKind, RulesRepeat};
+ghost use Rattle.timeline.specs.OffsetPromises.{OffsetsChangeAtEntries, EntriesChangeOffsets, SidesHoldAtTheTwo};
 
 /// The offset at a second is that of the last entry not after it, or the initial one where all entries are after it.
 pub fn last_entry_holds()

@@ -2,7 +2,8 @@
 ghost use Rattle.std.specs.Prelude.{◌≡◌, ◌≤◌, ◌↔◌, ℕ, pos, negsuc, ◌<◌, ◌<ℤ◌, length, true, false, IsTrue, IfSome};
 ghost use Rattle.timeline.specs.Zone.{PlainRule};
 ghost use Rattle.civil.specs.Calendar.{year_second};
-ghost use Rattle.timeline.specs.Laws.{IsLawful, KeepsOrder};
+ghost use Rattle.timeline.specs.Laws.{IsLawful};
+ghost use Rattle.timeline.specs.TableLaws.{KeepsOrder};
 ghost use Rattle.timeline.specs.declared.lookups.YearEntries.TheVariants as told;
 ghost use Rattle.timeline.specs.Inside.YearEntries.{entries_in, IsNearestYear, StartsInside};
 ghost use Rattle.timeline.specs.Transitions.{IsUpTo, AnswersNext, AnswersPrev};

@@ -1,7 +1,10 @@
 -- Worked examples of words: texts in more than one byte a character, forms beside counts, layouts.
 use Rattle.std.proofs.Common.{◌≡◌, [], ◌∷◌, true, false, refl}
 use Rattle.tongues.specs.Text.{text}
-use Rattle.tongues.specs.Languages.{basque, english, japanese, polish, russian}
+use Rattle.tongues.specs.Languages.{basque}
+use Rattle.tongues.specs.GermanicLanguages.{english}
+use Rattle.tongues.specs.AsianLanguages.{japanese}
+use Rattle.tongues.specs.SlavicLanguages.{polish, russian}
 use Rattle.tongues.specs.declared.unit.TimeUnit.TheVariants as u
 
 two_bytes : text "час" ≡ 209 ∷ 135 ∷ 208 ∷ 176 ∷ 209 ∷ 129 ∷ []

@@ -1,6 +1,10 @@
--- What the language says that is named.
+-- What the language says that is named (docs/WORDS.md, "Languages").
 use Rattle.tongues.specs.Speech.{Speech}
-use Rattle.tongues.specs.Languages.{basque, belarusian, chinese, danish, english, french, german, italian, japanese, korean, polish, portuguese, romanian, russian, spanish, swedish, thai, turkish, ukrainian}
+use Rattle.tongues.specs.Languages.{basque, turkish}
+use Rattle.tongues.specs.SlavicLanguages.{belarusian, polish, russian, ukrainian}
+use Rattle.tongues.specs.AsianLanguages.{chinese, japanese, korean, thai}
+use Rattle.tongues.specs.GermanicLanguages.{danish, english, german, swedish}
+use Rattle.tongues.specs.RomanceLanguages.{french, italian, portuguese, romanian, spanish}
 use Rattle.tongues.specs.declared.any.AnyLanguage.{AnyLanguage}
 use Rattle.tongues.specs.declared.any.AnyLanguage.TheVariants as any
 

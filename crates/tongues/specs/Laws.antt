@@ -1,4 +1,4 @@
--- What the units keep, and what a text is.
+-- What the units keep, and what a text is (docs/WORDS.md, "Units").
 use Rattle.std.specs.Prelude.{◌≡◌, ◌<◌, ◌≤◌, ◌⊎◌, Some, encode_utf8_all, codes}
 use Prim.Native.String.{String}
 use Rattle.tongues.specs.Text.{text}

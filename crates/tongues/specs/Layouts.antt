@@ -1,4 +1,4 @@
--- Where a language puts its words and spaces.
+-- Where a language puts its words and spaces (docs/WORDS.md, "Languages").
 use Rattle.std.specs.Prelude.{◌≡◌, ℕ}
 use Rattle.tongues.specs.Speech.{Speech}
 use Rattle.tongues.specs.declared.language.Layout.{Layout}

@@ -1,4 +1,4 @@
--- What a language says.
+-- What a language says (docs/WORDS.md, "Languages").
 use Rattle.std.specs.Prelude.{ℕ, Bool, false, List}
 use Prim.Native.String.{String}
 use Rattle.tongues.specs.Text.{text}

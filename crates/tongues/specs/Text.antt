@@ -1,4 +1,4 @@
--- The bytes of a text: the UTF-8 of its characters.
+-- The bytes of a text: the UTF-8 of its characters (docs/WORDS.md, "Languages").
 use Rattle.std.specs.Prelude.{ℕ, List, [], ◌∷◌, ◌++◌, ◌+◌, ◌/◌, ◌%◌, codes, if◌then◌else◌, nat_lt}
 use Prim.Native.String.{String}
 

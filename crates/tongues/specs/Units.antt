@@ -1,4 +1,4 @@
--- The units of a distance: their sizes in nanoseconds, and which one is next.
+-- The units of a distance: their sizes in nanoseconds, and which one is next (docs/WORDS.md, "Units").
 use Rattle.std.specs.Prelude.{ℕ, Option, Some, None}
 use Rattle.tongues.specs.declared.unit.TimeUnit.{TimeUnit}
 use Rattle.tongues.specs.declared.unit.TimeUnit.TheVariants as u

@@ -1,4 +1,4 @@
--- How the words of the ten units are put down.
+-- How the words of the ten units are put down (docs/WORDS.md, "Languages").
 use Rattle.std.specs.Prelude.{ℕ, List, ◌&&◌, if◌then◌else◌, ◌==◌, nat_le, ◌%◌}
 use Prim.Native.String.{String}
 use Rattle.tongues.specs.Text.{text}

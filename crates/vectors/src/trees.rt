@@ -1,6 +1,6 @@
 //! Trees of zone data, made of their parts.
 ghost use Rattle.std.specs.Prelude.{◌≡◌, ◌∷◌, ◌++◌, [], pos, negsuc, ◌≤ℤ◌, Some, IfOk};
-ghost use Rattle.resb_tree.specs.Fields.{signed_in, bytes_in, entries_in};
+ghost use Rattle.resb_tree.specs.Contents.{signed_in, bytes_in, entries_in};
 
 use resb::{Key, Resource};
 use sqlite_items::Items;

@@ -5,7 +5,7 @@ use Rattle.civil.specs.Shown.{Shows}
 use Rattle.zoned.specs.declared.offset.CivilOffset.{CivilOffset}
 use Rattle.zoned.specs.declared.offset.CivilOffset.TheVariants as Civil
 use Rattle.zoned.specs.Placing.{before, IsPlaced}
-use Rattle.zoned.specs.Answers.{IsCivil, civil_map, first_offset}
+use Rattle.zoned.specs.CivilAnswers.{IsCivil, civil_map, first_offset}
 
 -- the first second that shows w
 is_first : (off : ℤ → ℤ) (w s t : ℤ) → s ≡ t → Shows off t w → ((u : ℤ) → Shows off u w → t ≤ℤ u) → IsPlaced off w s

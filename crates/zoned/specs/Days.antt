@@ -1,4 +1,4 @@
--- What contracts read of a day with an offset.
+-- What contracts read of a day with an offset (docs/ZONES.md, "Zones of `zoned`").
 use Rattle.std.specs.Prelude.{ℤ}
 use Rattle.zoned.specs.declared.date.Date.{Date}
 

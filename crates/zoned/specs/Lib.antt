@@ -1,4 +1,5 @@
 pub mod Answers
+pub mod CivilAnswers
 pub mod Days
 pub mod Moment
 pub mod Offsets

@@ -1,4 +1,4 @@
--- What contracts read of a fixed offset and of a moment.
+-- What contracts read of a fixed offset and of a moment (docs/ZONES.md, "Zones of `zoned`").
 use Rattle.std.specs.Prelude.{ℕ, ℤ, pos, ◌+ℤ◌}
 use Rattle.civil.specs.Times.{wall_of, nanos_of}
 use Rattle.civil.specs.Delta.{second_nanos}

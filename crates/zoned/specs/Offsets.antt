@@ -1,4 +1,4 @@
--- Offsets of less than a day.
+-- Offsets of less than a day (docs/ZONES.md, "Zones of `zoned`").
 use Rattle.std.specs.Prelude.{ℤ, pos, negsuc, ◌≤ℤ◌}
 
 -- less than a day to either side

@@ -1,4 +1,4 @@
--- Gaps, and where a wall second is placed, where `off` tells the offset at each second.
+-- Gaps, and where a wall second is placed, where `off` tells the offset at each second (docs/ZONES.md, "Placement").
 use Rattle.std.specs.Prelude.{◌≡◌, ◌⊎◌, ℤ, pos, ◌+ℤ◌, ◌-ℤ◌, ◌<ℤ◌, ◌≤ℤ◌}
 use Rattle.civil.specs.Shown.{IsNeverShown, IsFirstShown}
 

@@ -1,4 +1,4 @@
--- How an offset is written: +hh:mm, and :ss where it has seconds.
+-- How an offset is written: +hh:mm, and :ss where it has seconds (docs/ZONES.md, "Zones of `zoned`").
 use Rattle.std.specs.Prelude.{ℕ, ◌/◌, ◌%◌, ◌==◌, List, ◌∷◌, ◌++◌, codes, if◌then◌else◌, ℤ, pos, int_lt, unsigned_abs}
 use Rattle.std.specs.Fmt.{decimal}
 

@@ -1,5 +1,5 @@
 ghost use Rattle.std.specs.Prelude.{◌≡◌, ◌↔◌, ℕ, ℤ, pos, ◌+ℤ◌, ◌-ℤ◌, ◌*ℤ◌, ◌≤ℤ◌, int_div, IsSome, IfSome, IsTrue};
-ghost use Rattle.civil.specs.Calendar.{IsDay, IsDateOf};
+ghost use Rattle.civil.specs.CivilDates.{IsDay, IsDateOf};
 ghost use Rattle.civil.specs.Ages.{years_between};
 ghost use Rattle.civil.specs.Clock.{IsClock, IsFraction, clock_second};
 ghost use Rattle.civil.specs.Delta.{day_nanos};

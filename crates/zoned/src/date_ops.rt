@@ -1,6 +1,6 @@
 //! Days moved by operators, changed part by part, and written.
 ghost use Rattle.std.specs.Prelude.{◌≡◌, ◌↔◌, ℤ, pos, ◌+ℤ◌, ◌-ℤ◌, ◌*ℤ◌, int_div, IsSome, IfSome, IsTrue};
-ghost use Rattle.civil.specs.Calendar.{IsDay};
+ghost use Rattle.civil.specs.CivilDates.{IsDay};
 ghost use Rattle.civil.specs.Delta.{day_nanos};
 
 use crate::date::Date;

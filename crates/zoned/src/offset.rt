@@ -2,7 +2,8 @@ ghost use Rattle.std.specs.Prelude.{◌≡◌, ℤ, pos, ◌-ℤ◌, ◌*ℤ◌}
 ghost use Rattle.civil.specs.Times.{wall_of, nanos_of};
 ghost use Rattle.zoned.specs.Days.{day_number, date_offset};
 ghost use Rattle.zoned.specs.Moment.{seconds_east, second_of, fraction_of, offset_of};
-ghost use Rattle.zoned.specs.Answers.{IsCivil, mapped_of, civil_map, mapped_map, first_offset, single_of, earliest_of, latest_of, AllCivil, AllMapped, AreMoments};
+ghost use Rattle.zoned.specs.CivilAnswers.{IsCivil, mapped_of, civil_map, mapped_map, first_offset, AllCivil, AllMapped};
+ghost use Rattle.zoned.specs.Answers.{single_of, earliest_of, latest_of, AreMoments};
 ghost use Rattle.zoned.specs.declared.offset.MappedLocalTime.{MappedLocalTime};
 
 use crate::date::Date;

@@ -4,7 +4,8 @@ ghost use Rattle.civil.specs.Clock.{IsWallSecond};
 ghost use Rattle.civil.specs.Times.{wall_of, nanos_of};
 ghost use Rattle.zoned.specs.Days.{day_number, date_offset};
 ghost use Rattle.zoned.specs.Moment.{second_of, fraction_of, offset_of};
-ghost use Rattle.zoned.specs.Answers.{mapped_map, civil_map, first_offset, AllCivil, AllMapped, AreMoments, IsCivil};
+ghost use Rattle.zoned.specs.CivilAnswers.{mapped_map, civil_map, first_offset, AllCivil, AllMapped, IsCivil};
+ghost use Rattle.zoned.specs.Answers.{AreMoments};
 ghost use Rattle.zoned.specs.Placing.{IsPlaced};
 
 use crate::date::Date;

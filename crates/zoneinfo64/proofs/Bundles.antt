@@ -1,15 +1,16 @@
 -- A bundle is read step by step.
 use Rattle.std.proofs.Common.{◌≡◌, ℕ, suc, ◌<◌, ◌≤◌, true, List, [], ◌∷◌, length, Option, Some, None, IsSome, Err, refl, sym, ap, ◌∙◌, codes}
 use Rattle.std.proofs.lemmas.Bool.{and_parts, leb-true, ltb-true}
-use Rattle.resb_tree.specs.Tree.{◌>>=◌}
+use Rattle.resb_tree.specs.Bodies.{◌>>=◌}
 use Rattle.resb_tree.specs.Header.{tree_of}
-use Rattle.resb_tree.specs.Fields.{index_in}
+use Rattle.resb_tree.specs.Contents.{index_in}
 use Rattle.resb_tree.specs.declared.resource.Resource.{Resource}
 use Rattle.zoneinfo64.specs.declared.error.BinaryDeserializerError.{BinaryDeserializerError}
 use Rattle.zoneinfo64.specs.declared.error.BinaryDeserializerError.TheVariants as errors
 use Rattle.timeline.specs.Zone.{RawRule}
 use Rattle.zoneinfo64.specs.NamedZone.{NamedZone}
-use Rattle.zoneinfo64.specs.Bundle.{zones_of_words, place_by, place_of, named_zone, named_zones, are_arrays, array_in, table_in, checked_zones, zone_list}
+use Rattle.zoneinfo64.specs.Bundle.{zones_of_words, are_arrays, array_in, table_in, checked_zones, zone_list}
+use Rattle.zoneinfo64.specs.ZoneNames.{place_by, place_of, named_zone, named_zones}
 use Rattle.zoneinfo64.specs.Inside.Steps.{Reads}
 use Rattle.zoneinfo64.specs.RuleFields.{rules_of, rule_named, used_rule, rule_fields}
 use Rattle.zoneinfo64.specs.ZoneFields.{zone_rule, plain_zone_of}

@@ -5,7 +5,8 @@ use Rattle.std.specs.Str.{bytes_eq}
 use Rattle.std.proofs.lemmas.List.{take_more}
 use Rattle.std.proofs.lemmas.Option.{slice_get_within, get_or_from_slice_get}
 use Rattle.std.proofs.lemmas.Slice.Eq.{bytes_eq-Decides}
-use Rattle.resb_tree.specs.Fields.{field_in, field_layer, first_with, entries_in, entries_layer}
+use Rattle.resb_tree.specs.Fields.{field_in, field_layer, first_with}
+use Rattle.resb_tree.specs.Contents.{entries_in, entries_layer}
 use Rattle.resb_tree.specs.declared.resource.Resource.{Resource, out-Resource}
 use Rattle.resb_tree.specs.declared.resource.Resource.TheOpen.{Resource-F}
 use Rattle.zoneinfo64.specs.declared.parts.Field.{Field}

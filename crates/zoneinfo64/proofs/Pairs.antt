@@ -5,8 +5,8 @@ use Rattle.std.proofs.lemmas.List.{take_all}
 use Rattle.timeline.specs.Zone.{fits_i32}
 use Rattle.timeline.specs.Table.{sums_fit}
 use Rattle.zoneinfo64.specs.Inside.Steps.{with_front}
-use Rattle.zoneinfo64.specs.RuleFields.{as_i32}
-use Rattle.zoneinfo64.specs.ZoneFields.{pair_of, offset_pairs}
+use Rattle.zoneinfo64.specs.RuleDates.{as_i32}
+use Rattle.zoneinfo64.specs.ZoneLists.{pair_of, offset_pairs}
 use Rattle.zoneinfo64.proofs.Fronts.{front_grows}
 
 pair_on : (front : List (ℤ × ℤ)) (a b : ℕ) (p : ℤ × ℤ) (words : List ℕ) (total : Option (List (ℤ × ℤ))) → pair_of a b ≡ Some p

@@ -1,11 +1,12 @@
 -- Rules by their dates.
 use Rattle.std.proofs.Common.{◌≡◌, ℕ, ◌<◌, ◌≤◌, Bool, true, false, cond, List, [], ◌∷◌, length, get_or, Option, Some, None, ℤ, pos, negsuc, ◌≤ℤ◌, refl, ap, ◌∙◌, arith}
-use Rattle.resb_tree.specs.Tree.{◌>>=◌}
+use Rattle.resb_tree.specs.Bodies.{◌>>=◌}
 use Rattle.std.proofs.lemmas.Bool.Decides.{nat_tests}
 use Rattle.std.specs.Prelude.{unsigned_abs, int_le, int_lt, nat_le, ◌&&◌}
 use Rattle.std.specs.Ordering.{int_eq}
 use Rattle.civil.proofs.SignedLemmas.{signed_arith, one_part}
-use Rattle.zoneinfo64.specs.RuleFields.{between, longest_month, is_rule_day, as_i32, is_date, date_from, date_rule, raw_rule}
+use Rattle.zoneinfo64.specs.RuleDates.{between, longest_month, is_rule_day, as_i32, is_date, date_from, date_rule}
+use Rattle.zoneinfo64.specs.RuleFields.{raw_rule}
 use Rattle.timeline.specs.Zone.{DateRule, RawRule}
 use Rattle.timeline.specs.Ranges.{IsDateInRange}
 use Rattle.zoneinfo64.specs.Inside.DateWords.{by_dates}

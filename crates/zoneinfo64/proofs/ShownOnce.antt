@@ -7,8 +7,8 @@ use Rattle.civil.specs.Shown.{Shows, IsNeverShown, IsShownOnce, IsShownTwice}
 use Rattle.zoned.specs.declared.offset.MappedLocalTime.TheVariants as Mapped
 use Rattle.zoned.specs.declared.offset.CivilOffset.{CivilOffset}
 use Rattle.zoned.specs.declared.offset.CivilOffset.TheVariants as Civil
-use Rattle.zoned.specs.Answers.{IsCivil, mapped_of}
-use Rattle.timeline.specs.Laws.{IsSmall}
+use Rattle.zoned.specs.CivilAnswers.{IsCivil, mapped_of}
+use Rattle.timeline.specs.TableLaws.{IsSmall}
 use Rattle.zoneinfo64.specs.ShownOffsets.{offset_number, is_shown_by, shown_by, mapped_list, shown_offsets}
 
 -- ---- one offset more

@@ -6,7 +6,7 @@ use Rattle.std.proofs.lemmas.List.Elements.{All-nil, All-cons}
 use Rattle.std.proofs.lemmas.Option.{slice_get-get_or, slice_get_within}
 use Rattle.timeline.specs.Table.{table_from}
 use Rattle.zoneinfo64.specs.Inside.Steps.{wide, wide_second, AreKnown}
-use Rattle.zoneinfo64.specs.RuleFields.{as_i32}
+use Rattle.zoneinfo64.specs.RuleDates.{as_i32}
 use Rattle.zoneinfo64.specs.ZoneFields.{table_of}
 
 -- where each second has the number of a pair there is a table

@@ -1,7 +1,7 @@
 -- Seconds of 64 bits in words.
 use Rattle.std.proofs.Common.{◌≡◌, ℕ, ◌/◌, ◌%◌, List, [], ◌∷◌, length, Some, None, refl, arith}
 use Rattle.zoneinfo64.specs.Inside.Steps.{wide}
-use Rattle.zoneinfo64.specs.ZoneFields.{wide_seconds}
+use Rattle.zoneinfo64.specs.ZoneLists.{wide_seconds}
 
 pub wide_even : (words : List ℕ) → length words % 2 ≡ 0 → wide_seconds words ≡ Some (wide words)
 wide_even [] even = refl

@@ -4,7 +4,7 @@ use Rattle.std.proofs.lemmas.Int.{ints, clamps}
 use Rattle.civil.specs.Shown.{IsNeverShown}
 use Rattle.zoned.specs.declared.offset.CivilOffset.{CivilOffset}
 use Rattle.zoned.specs.declared.offset.CivilOffset.TheVariants as Civil
-use Rattle.zoned.specs.Answers.{IsCivil, civil_map, mapped_of}
+use Rattle.zoned.specs.CivilAnswers.{IsCivil, civil_map, mapped_of}
 use Rattle.zoned.specs.Placing.{IsGap, IsSkippedAt, IsPlaced}
 use Rattle.timeline.specs.declared.offset.Offset.{Offset}
 use Rattle.timeline.specs.declared.offset.Transition.{Transition}
@@ -12,11 +12,13 @@ use Rattle.timeline.specs.declared.offset.PossibleOffset.{PossibleOffset}
 use Rattle.timeline.specs.declared.offset.PossibleOffset.TheVariants as possible
 use Rattle.timeline.specs.Zone.{PlainZone}
 use Rattle.timeline.specs.Timeline.{entry_at, before_entry, offset_at}
-use Rattle.timeline.specs.Placement.{IsGapOf, seconds_at}
+use Rattle.timeline.specs.Placement.{IsGapOf}
+use Rattle.timeline.specs.ShownWalls.{seconds_at}
 use Rattle.timeline.specs.Placement as entries
-use Rattle.timeline.specs.Laws.{IsLawful, IsSmall}
+use Rattle.timeline.specs.Laws.{IsLawful}
+use Rattle.timeline.specs.TableLaws.{IsSmall}
 use Rattle.timeline.specs.Lookups.{AnswersWall}
-use Rattle.timeline.specs.Promises.{AreSides}
+use Rattle.timeline.specs.OffsetPromises.{AreSides}
 use Rattle.timeline.proofs.OffsetChanges.{changes_at_entry, sides_of_entry, two_sides}
 use Rattle.timeline.proofs.SmallOffsets.{offsets-are-small}
 use Rattle.timeline.proofs.WallSeconds.{showing}

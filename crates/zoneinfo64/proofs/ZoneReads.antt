@@ -7,7 +7,8 @@ use Rattle.timeline.specs.Table.{PlainSeconds, pair_offset, pair_of_number, zone
 use Rattle.zoneinfo64.specs.Inside.Steps.{AreKnown, wide, seconds_of, plain_seconds}
 use Rattle.zoneinfo64.specs.Inside.ZoneParts.{offsets_in, words_in, numbers_in, wide_in, parts_of, zone_in}
 use Rattle.zoneinfo64.specs.RuleFields.{rule_fields}
-use Rattle.zoneinfo64.specs.ZoneFields.{type_offsets, initial_of, integers_at, bytes_at, wide_at, zone_rule, plain_zone_of}
+use Rattle.zoneinfo64.specs.ZoneLists.{type_offsets, initial_of, integers_at, bytes_at, wide_at}
+use Rattle.zoneinfo64.specs.ZoneFields.{zone_rule, plain_zone_of}
 use Rattle.zoneinfo64.specs.declared.parts.ZoneParts.{ZoneParts}
 use Rattle.zoneinfo64.proofs.Tables.{table_given, table_refused}
 

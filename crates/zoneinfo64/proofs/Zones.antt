@@ -4,12 +4,12 @@ use Rattle.std.specs.List.{slice_get}
 use Rattle.std.proofs.lemmas.List.{drop_all, append-nil, length-map}
 use Rattle.zoneinfo64.specs.declared.error.BinaryDeserializerError.{BinaryDeserializerError}
 use Rattle.zoneinfo64.specs.declared.error.BinaryDeserializerError.TheVariants as errors
-use Rattle.resb_tree.specs.Tree.{◌>>=◌}
+use Rattle.resb_tree.specs.Bodies.{◌>>=◌}
 use Rattle.resb_tree.specs.declared.resource.Resource.{Resource}
 use Rattle.zoneinfo64.specs.declared.zone.Named.{Named}
 use Rattle.timeline.specs.Zone.{RawRule}
 use Rattle.zoneinfo64.specs.NamedZone.{NamedZone}
-use Rattle.zoneinfo64.specs.Bundle.{named_zone, named_zones}
+use Rattle.zoneinfo64.specs.ZoneNames.{named_zone, named_zones}
 use Rattle.zoneinfo64.specs.Inside.Steps.{Reads, with_front, with_next}
 use Rattle.zoneinfo64.specs.Inside.ZoneList.{named_of, zones_of}
 use Rattle.zoneinfo64.proofs.FieldParts.{drop_one}

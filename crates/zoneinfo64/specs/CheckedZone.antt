@@ -1,4 +1,4 @@
--- A zone of a bundle with the checker's verdict on it.
+-- A zone of a bundle with the checker's verdict on it (docs/ZONES.md, "The checker").
 use Rattle.std.specs.Prelude.{◌≡◌, ℕ, Option, Some, None, Result, Ok, Err, List}
 use Rattle.timeline.specs.Zone.{PlainZone}
 use Rattle.zoneinfo64.specs.NamedZone.{NamedZone, named}

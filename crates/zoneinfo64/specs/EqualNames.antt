@@ -1,4 +1,4 @@
--- When two entries of a zone list have the same name and region.
+-- When two entries of a zone list have the same name and region (docs/ZONES.md, "Equal zones").
 use Rattle.std.specs.Prelude.{nat_eq, Bool, ◌&&◌}
 use Rattle.std.specs.Cmp.Lexicographic.{pointwise}
 use Rattle.zoneinfo64.specs.NamedZone.{NamedZone}

@@ -1,4 +1,4 @@
--- A bundle as plain data: its zones by name, in order.
+-- A bundle as plain data: its zones by name, in order (docs/FORMATS.md, "Names").
 use Rattle.std.specs.Prelude.{ℕ, List, slice_get, position, Option, Some, None, encode_utf8_all}
 use Rattle.std.specs.Char.Utf16.{utf16_lossy_chars}
 use Rattle.std.specs.Str.{bytes_eq}

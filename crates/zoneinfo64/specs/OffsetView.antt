@@ -1,4 +1,4 @@
--- What a `ChronoOffset` tells: an offset with its flag, and the zone whose it is.
+-- What a `ChronoOffset` tells: an offset with its flag, and the zone whose it is (docs/ZONES.md, "Zones of `zoned`").
 use Rattle.std.specs.Prelude.{ℤ, pos, negsuc}
 use Rattle.std.specs.Int.{int_max, int_min}
 use Rattle.timeline.specs.declared.offset.Offset.{Offset}

@@ -1,4 +1,4 @@
--- What names and zones keep, as laws.
+-- What names and zones keep, as laws (docs/ZONES.md, "Proved of the definitions").
 use Rattle.std.specs.Prelude.{◌≡◌, ◌↔◌, ℤ, ℕ, ◌<◌, List, All, IsTrue, encode_utf8_all}
 use Rattle.std.specs.Ordering.{nat_cmp}
 use Rattle.std.specs.Cmp.Lexicographic.{slice_cmp}
@@ -7,7 +7,7 @@ use Rattle.std.specs.Char.Utf16.{utf16_lossy_chars}
 use Rattle.zoned.specs.Placing.{IsPlaced}
 use Rattle.timeline.specs.Zone.{PlainZone}
 use Rattle.timeline.specs.Laws.{IsLawful}
-use Rattle.timeline.specs.Placement.{seconds_at}
+use Rattle.timeline.specs.ShownWalls.{seconds_at}
 use Rattle.timeline.specs.Placement as entries
 use Rattle.zoneinfo64.specs.NamedZone.{name_text}
 

@@ -1,6 +1,6 @@
--- The codes of regions, as bytes are read.
+-- The codes of regions, as bytes are read (docs/FORMATS.md, "Regions").
 use Rattle.std.specs.Prelude.{ℕ, List, [], ◌∷◌, Option, None}
-use Rattle.zoneinfo64.specs.Bundle.{region_code}
+use Rattle.zoneinfo64.specs.Regions.{region_code}
 
 -- the code that three bytes are
 abbrev pub code_of_bytes : List ℕ → Option (List ℕ)

@@ -1,4 +1,4 @@
--- The offsets by which a wall second is shown, where `off` tells the offset at each second.
+-- The offsets by which a wall second is shown, where `off` tells the offset at each second (docs/ZONES.md, "Zones of `zoned`").
 use Rattle.std.specs.Prelude.{ℕ, zero, suc, List, [], ◌∷◌, Bool, if◌then◌else◌, ℤ, pos, negsuc, ◌+ℤ◌, ◌-ℤ◌}
 use Rattle.std.specs.Ordering.{int_eq}
 use Rattle.zoned.specs.declared.offset.MappedLocalTime.{MappedLocalTime}

@@ -1,4 +1,4 @@
--- The texts of errors.
+-- The texts of errors (docs/FORMATS.md, "What reading answers").
 use Rattle.std.specs.Prelude.{ℕ, List, codes}
 use Rattle.zoneinfo64.specs.declared.error.BinaryDeserializerError.{BinaryDeserializerError}
 use Rattle.zoneinfo64.specs.declared.error.BinaryDeserializerError.TheVariants.{Memory, Tree, Rules}

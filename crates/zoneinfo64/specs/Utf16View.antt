@@ -1,4 +1,4 @@
--- The characters that a `Utf16Chars` has left.
+-- The characters that a `Utf16Chars` has left (docs/FORMATS.md, "Names").
 use Rattle.std.specs.Prelude.{ℕ, List}
 use Rattle.std.specs.Char.Utf16.{utf16_lossy_chars}
 use Rattle.zoneinfo64.specs.declared.utf16.Utf16Chars.{Utf16Chars}

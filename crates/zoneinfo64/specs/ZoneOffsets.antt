@@ -1,8 +1,9 @@
--- A zone of a bundle as a zone of `zoned`: the offset at a second, and where it is sound (docs/ZONES.md, "Zones of `zoned`").
+-- A zone of a bundle as a zone of `zoned`: the offset at a second, and where it is sound
+-- (docs/ZONES.md, "Zones of `zoned`").
 use Rattle.std.specs.Prelude.{Option, Some, None, IfSome, ℤ, pos}
 use Rattle.zoned.specs.declared.offset.MappedLocalTime.{MappedLocalTime}
 use Rattle.timeline.specs.Zone.{PlainZone}
-use Rattle.timeline.specs.Placement.{seconds_at}
+use Rattle.timeline.specs.ShownWalls.{seconds_at}
 use Rattle.timeline.specs.Laws.{IsLawful}
 use Rattle.zoneinfo64.specs.ShownOffsets.{shown_offsets}
 use Rattle.zoneinfo64.specs.declared.zone.Zone.{Zone}

@@ -1,4 +1,4 @@
--- The entry and the plain zone behind a `Zone`.
+-- The entry and the plain zone behind a `Zone` (docs/FORMATS.md, "Zones").
 use Rattle.std.specs.Prelude.{ℕ, List, Option, slice_get}
 use Rattle.timeline.specs.Zone.{PlainZone}
 use Rattle.zoneinfo64.specs.NamedZone.{NamedZone, resolved_in}

@@ -2,7 +2,8 @@
 ghost use Rattle.std.specs.Prelude.{◌≡◌, ◌<◌, ◌++◌, ◌∷◌, [], length, IfOk, is_some, vec_len, vec_capacity};
 ghost use Rattle.zoneinfo64.specs.NamedZone.{zone_at};
 ghost use Rattle.resb_tree.specs.Header.{tree_of};
-ghost use Rattle.zoneinfo64.specs.Bundle.{rises, is_resolved, all_resolved, place_of, named_zone, named_zones, array_in, table_in, are_arrays, checked_zones, zone_list, zones_of_words};
+ghost use Rattle.zoneinfo64.specs.Bundle.{rises, is_resolved, all_resolved, array_in, table_in, are_arrays, checked_zones, zone_list, zones_of_words};
+ghost use Rattle.zoneinfo64.specs.ZoneNames.{place_of, named_zone, named_zones};
 ghost use Rattle.zoneinfo64.specs.Inside.Steps.{Reads, with_next, is_before};
 ghost use Rattle.zoneinfo64.specs.Inside.RuleView.{rule_for};
 ghost use Rattle.zoneinfo64.specs.Inside.ZoneList.{zones_of, named_of, place_of_item, AreEntries};
@@ -40,7 +41,7 @@ fn push_entry(
 
 /// Appends one zone with its name and region. An alias goes a way of its own, so that no room for a
 /// zone is moved for it.
-#[tactic(auto, unfolding(crate::specs::Bundle::named_zone, crate::specs::Bundle::place_of))]
+#[tactic(auto, unfolding(crate::specs::ZoneNames::named_zone, crate::specs::ZoneNames::place_of))]
 fn push_named(
     alloc: Global,
     rules: &Rules,

@@ -1,6 +1,6 @@
 //! A zone of a bundle as a zone of `zoned`.
 ghost use Rattle.std.specs.Prelude.{◌≡◌, ℤ, pos, ◌*ℤ◌};
-ghost use Rattle.zoned.specs.Answers.{AllCivil, IsCivil, civil_map, mapped_of};
+ghost use Rattle.zoned.specs.CivilAnswers.{AllCivil, IsCivil, civil_map, mapped_of};
 ghost use Rattle.zoned.specs.Moment.{seconds_east};
 ghost use Rattle.zoneinfo64.specs.OffsetView.{offset_told, zone_told, seconds_told, cut_to_day, civil_of};
 ghost use Rattle.zoneinfo64.specs.ZoneOffsets.{zone_off, zone_local, IsSound};

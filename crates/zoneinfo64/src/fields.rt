@@ -1,11 +1,13 @@
 //! The fields of a zone.
 ghost use Rattle.std.specs.Prelude.{◌≡◌, ℕ, ◌+◌, ◌<◌, ◌≤◌, ◌++◌, ◌↔◌, All, map, IsTrue, IfOk, IfSome, length, vec_len, vec_capacity};
 ghost use Rattle.timeline.specs.Table.{sums_fit};
-ghost use Rattle.zoneinfo64.specs.Bundle.{region_byte, region_byte_at, region_of};
+ghost use Rattle.zoneinfo64.specs.Regions.{region_byte, region_byte_at, region_of};
 ghost use Rattle.zoneinfo64.specs.Inside.Steps.{Reads, wide, wide_second, seconds_of, plain_seconds, AreKnown};
 ghost use Rattle.zoneinfo64.specs.Inside.ZoneParts.{offsets_in, words_in, numbers_in, wide_in, zone_in};
-ghost use Rattle.zoneinfo64.specs.RuleFields.{as_i32, used_rule, rule_fields};
-ghost use Rattle.zoneinfo64.specs.ZoneFields.{pair_of, offset_pairs, plain_zone_of};
+ghost use Rattle.zoneinfo64.specs.RuleDates.{as_i32};
+ghost use Rattle.zoneinfo64.specs.RuleFields.{used_rule, rule_fields};
+ghost use Rattle.zoneinfo64.specs.ZoneLists.{pair_of, offset_pairs};
+ghost use Rattle.zoneinfo64.specs.ZoneFields.{plain_zone_of};
 ghost use Rattle.zoneinfo64.specs.Inside.RuleView.{rule_for};
 
 use crate::error::BinaryDeserializerError;

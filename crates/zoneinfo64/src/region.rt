@@ -1,6 +1,6 @@
 //! Codes of regions.
 ghost use Rattle.std.specs.Prelude.{◌≡◌};
-ghost use Rattle.zoneinfo64.specs.Bundle.{is_capital, is_digit, region_code};
+ghost use Rattle.zoneinfo64.specs.Regions.{is_capital, is_digit, region_code};
 
 use std::marker::Model;
 

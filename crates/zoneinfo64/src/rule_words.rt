@@ -2,7 +2,8 @@
 ghost use Rattle.std.specs.Prelude.{◌≡◌, ◌≤◌, ◌&&◌, IfSome, option_map, unsigned_abs};
 ghost use Rattle.timeline.specs.DateView.{mode_number, plain_date, raw_of};
 ghost use Rattle.timeline.specs.Ranges.{IsDateInRange, AreDatesInRange};
-ghost use Rattle.zoneinfo64.specs.RuleFields.{as_i32, longest_month, between, is_rule_day, is_date, date_from, date_rule, raw_rule};
+ghost use Rattle.zoneinfo64.specs.RuleDates.{as_i32, longest_month, between, is_rule_day, is_date, date_from, date_rule};
+ghost use Rattle.zoneinfo64.specs.RuleFields.{raw_rule};
 ghost use Rattle.zoneinfo64.specs.Inside.DateWords.{by_dates};
 
 use timeline::{DayRule, RuleDate, RuleDates, TimeMode};

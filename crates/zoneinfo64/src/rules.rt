@@ -1,7 +1,7 @@
 //! The rules of a bundle by their keys.
 ghost use Rattle.std.specs.Prelude.{◌≡◌, IfOk, option_map};
 ghost use Rattle.std.specs.Option.{option_copied};
-ghost use Rattle.resb_tree.specs.Fields.{integers_in};
+ghost use Rattle.resb_tree.specs.Contents.{integers_in};
 ghost use Rattle.zoneinfo64.specs.Inside.Steps.{Reads, ReadsRules, rule_in};
 ghost use Rattle.zoneinfo64.specs.RuleFields.{rules_of, raw_rule};
 ghost use Rattle.zoneinfo64.specs.Inside.RuleView.{rule_for};

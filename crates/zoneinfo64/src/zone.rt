@@ -233,7 +233,8 @@ impl<'a> Zone<'a> {
 
 impl<'a> Zone<'a> {
     ghost use Rattle.std.specs.Prelude.{◌↔◌, ◌+◌, ◌-◌, ◌*◌, ◌^◌, ◌≤◌, length, IsOk, IfErr, IfSome};
-    ghost use Rattle.timeline.specs.Laws.{IsLawful, KeepsOrder};
+    ghost use Rattle.timeline.specs.Laws.{IsLawful};
+    ghost use Rattle.timeline.specs.TableLaws.{KeepsOrder};
     ghost use Rattle.timeline.specs.Timeline.{table_place};
     ghost use Rattle.timeline.specs.Fault.{IsLeastBroken};
     ghost use Rattle.zoneinfo64.specs.ZoneView.{plain_zone};

@@ -1,6 +1,7 @@
 -- The tokens of the code as those that the definitions speak of.
 use Rattle.std.specs.Prelude.{ℕ, ◌-◌, ◌≤◌, List, [], ◌∷◌, length, take, drop, Option, Some, None}
-use Rattle.interim.specs.Tokens.{Token, Kind, Number, Word, Dash, Slash, Colon, Dot, Comma, Plus, Unknown, tokens_of}
+use Rattle.interim.specs.TokenKinds.{Token, Kind, Number, Word, Dash, Slash, Colon, Dot, Comma, Plus, Unknown}
+use Rattle.interim.specs.Tokens.{tokens_of}
 use Rattle.interim.specs.declared.lexer.Front.{Front}
 use Rattle.interim.specs.declared.lexer.Front.TheVariants as f
 use Rattle.interim.specs.declared.lexer.Kind.{Kind as Written}

@@ -3,7 +3,7 @@ use Rattle.std.specs.Prelude.{◌≡◌, ℕ, ◌+◌, List, ◌++◌, length, m
 use Rattle.resb_tree.specs.declared.error.ResbError.{ResbError}
 use Rattle.resb_tree.specs.declared.resource.Resource.{Resource}
 use Rattle.resb.specs.Plan.{Fits, FitsAll, Refuses}
-use Rattle.resb.specs.Writing.{laid, lay_all}
+use Rattle.resb.specs.LaidTrees.{laid, lay_all}
 
 -- a tree stands behind the old words, the first of which is body word `base`, and this is its item
 pub record IsLaid (t : Resource) (places : List ℕ → ℕ) (base : ℕ) (old new : List ℕ) (told : ℕ) : Type 0 where

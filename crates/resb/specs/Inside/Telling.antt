@@ -4,9 +4,11 @@ use Rattle.resb_tree.specs.Keys.{distinct, keys_in}
 use Rattle.resb_tree.specs.declared.error.ResbError.{ResbError}
 use Rattle.resb_tree.specs.declared.resource.Resource.{Resource}
 use Rattle.resb_tree.specs.declared.resource.Resource.TheVariants as r
-use Rattle.resb.specs.Drafts.{Holds, HasRoom, Lacks}
-use Rattle.resb.specs.Plan.{Refuses, values_in}
-use Rattle.resb.specs.Writing.{all_keys, any_bad, has_bad_key}
+use Rattle.resb.specs.DraftRows.{Holds, HasRoom}
+use Rattle.resb.specs.DraftParents.{Lacks}
+use Rattle.resb.specs.Plan.{Refuses}
+use Rattle.resb.specs.KeyPlan.{values_in}
+use Rattle.resb.specs.BadKeys.{all_keys, any_bad, has_bad_key}
 use Rattle.resb.specs.declared.draft.Draft.{Draft}
 
 -- trees with no bad key were put at the end of the row; or memory ran out, or there is no room for the row with them

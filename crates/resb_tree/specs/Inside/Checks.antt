@@ -2,7 +2,8 @@
 use Rattle.std.specs.Prelude.{◌≡◌, ℕ, zero, suc, ◌+◌, ◌/◌, ◌%◌, ◌<◌, List, [], ◌∷◌, length, map, All, Option, Some, None, true, if◌then◌else◌, ◌==◌}
 use Rattle.resb_tree.specs.Keys.{distinct}
 use Rattle.resb_tree.specs.Words.{run}
-use Rattle.resb_tree.specs.Tree.{◌>>=◌, when, Body, counted, key_at}
+use Rattle.resb_tree.specs.Bodies.{◌>>=◌, when, Body, counted}
+use Rattle.resb_tree.specs.Tables.{key_at}
 use Rattle.resb_tree.specs.Forms.{item_in, no_items, array_count, entry_in, no_entries, EntriesLie, table_count}
 use Rattle.resb_tree.specs.Reading.{spent, short_span}
 use Rattle.resb_tree.specs.Inside.Places.{key_there, IsKey}

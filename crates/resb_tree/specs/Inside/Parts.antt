@@ -1,7 +1,7 @@
 -- How many values, items and entries stand behind a place that has some.
 use Rattle.std.specs.Prelude.{ℕ, ◌*◌, slice_index, Option, Some, None, if◌then◌else◌, ◌==◌}
 use Rattle.resb_tree.specs.Words.{unit_in}
-use Rattle.resb_tree.specs.Tree.{Body, area_len, area_unit}
+use Rattle.resb_tree.specs.Bodies.{Body, area_len, area_unit}
 use Rattle.resb_tree.specs.declared.forms.ArrayForm.{ArrayForm}
 use Rattle.resb_tree.specs.declared.forms.ArrayForm.TheVariants as array
 use Rattle.resb_tree.specs.declared.forms.TableForm.{TableForm}

@@ -1,7 +1,10 @@
 -- What stands at a place of a body, where something does.
 use Rattle.std.specs.Prelude.{◌≡◌, ℕ, ◌+◌, ◌≤◌, List, [], slice_index, Option, Some, None}
 use Rattle.resb_tree.specs.Words.{run}
-use Rattle.resb_tree.specs.Tree.{Body, tree_at, key_at, all_of, entries_of}
+use Rattle.resb_tree.specs.Bodies.{Body}
+use Rattle.resb_tree.specs.Tree.{tree_at}
+use Rattle.resb_tree.specs.Tables.{key_at, entries_of}
+use Rattle.resb_tree.specs.Arrays.{all_of}
 use Rattle.resb_tree.specs.Forms.{item_in, items_end, entry_in, EntriesLie}
 use Rattle.resb_tree.specs.declared.forms.ArrayForm.{ArrayForm}
 use Rattle.resb_tree.specs.declared.forms.TableForm.{TableForm}

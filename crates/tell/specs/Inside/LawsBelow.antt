@@ -1,7 +1,7 @@
 -- The laws of phrases and zones that the answer to a line stands on.
-use Rattle.timeline.specs.Promises.{OffsetsAreSmall}
+use Rattle.timeline.specs.WallPromises.{OffsetsAreSmall}
 use Rattle.zoneinfo64.specs.Promises.{ZonesPlaceAlike}
-use Rattle.interim.specs.Laws.{PlainFormsAreRead}
+use Rattle.interim.specs.PlainFormLaws.{PlainFormsAreRead}
 use Rattle.interim.specs.MeaningLaws.{PlainFormsAreInside, PlainFormsMean}
 
 -- what the crates below prove of phrases and of zones

@@ -3,7 +3,7 @@ use Rattle.std.specs.Prelude.{ℕ, [], ◌∷◌, codes}
 use Rattle.std.specs.Int.{w32, cast_unsigned}
 use Rattle.resb_tree.specs.declared.resource.Resource.{Resource}
 use Rattle.resb_tree.specs.declared.resource.Resource.TheVariants as r
-use Rattle.tell.specs.Load.{up_to, zone_name, load_offset}
+use Rattle.tell.specs.LoadZones.{up_to, zone_name, load_offset}
 
 -- a table with the one offset of the nth zone
 abbrev pub zone_tree : ℕ → Resource

@@ -4,7 +4,8 @@ use Rattle.civil.specs.Clock.{IsWallSecond}
 use Rattle.timeline.specs.Zone.{PlainZone}
 use Rattle.zoneinfo64.specs.NamedZone.{NamedZone, named}
 use Rattle.timeline.specs.Laws.{IsLawful}
-use Rattle.timeline.specs.Placement.{IsPlaced, seconds_at}
+use Rattle.timeline.specs.Placement.{IsPlaced}
+use Rattle.timeline.specs.ShownWalls.{seconds_at}
 use Rattle.interim.specs.declared.errors.DateError.{DateError}
 use Rattle.interim.specs.declared.types.Dialect.{Dialect}
 use Rattle.interim.specs.PlainForm.{IsPlainForm}

@@ -3,10 +3,11 @@ use Rattle.std.specs.Prelude.{◌≡◌, ℕ, ◌/◌, Bool, List, ◌++◌, ℤ
 use Rattle.std.specs.Fmt.{decimal, signed_decimal}
 use Rattle.timeline.specs.Zone.{PlainZone}
 use Rattle.zoneinfo64.specs.NamedZone.{NamedZone}
-use Rattle.timeline.specs.Placement.{seconds_at}
+use Rattle.timeline.specs.ShownWalls.{seconds_at}
 use Rattle.tell.specs.declared.moment.Moment.{Moment}
 use Rattle.tell.specs.Voices.{Voices}
-use Rattle.tell.specs.Replies.{Reply, Tale, IsTale, IsReplyTo}
+use Rattle.tell.specs.Replies.{Reply, IsReplyTo}
+use Rattle.tell.specs.Tales.{Tale, IsTale}
 use Rattle.tell.specs.ReplyTexts.{reply_text, side_text, tale_text}
 
 -- what stands before the words of a distance

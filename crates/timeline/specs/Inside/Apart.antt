@@ -2,7 +2,7 @@
 use Rattle.std.specs.Prelude.{◌≡◌, ℕ, slice_get, Option, Some, IfSome, ℤ, pos, negsuc, ◌+ℤ◌, ◌<ℤ◌, ◌≤ℤ◌}
 use Rattle.timeline.specs.declared.offset.Transition.{Transition}
 use Rattle.timeline.specs.Zone.{PlainZone}
-use Rattle.timeline.specs.Laws.{IsSmall}
+use Rattle.timeline.specs.TableLaws.{IsSmall}
 
 -- two days or more before another second
 abbrev pub IsApart : ℤ → ℤ → Type 0

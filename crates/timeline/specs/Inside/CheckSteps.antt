@@ -11,7 +11,9 @@ use Rattle.timeline.specs.Zone.{PlainRule, PlainZone}
 use Rattle.timeline.specs.Inside.LeastFaults.{TellsLeast}
 use Rattle.timeline.specs.Rule.{first_entry, second_entry}
 use Rattle.timeline.specs.Timeline.{offset_of, offset_or}
-use Rattle.timeline.specs.Laws.{Step, step, IsSmall, IsNear, IsWalled, IsYearLawful}
+use Rattle.timeline.specs.Neighbours.{Step, step, IsNear, IsWalled}
+use Rattle.timeline.specs.TableLaws.{IsSmall}
+use Rattle.timeline.specs.Laws.{IsYearLawful}
 
 -- ---- walls
 

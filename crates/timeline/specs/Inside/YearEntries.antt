@@ -6,7 +6,7 @@ use Rattle.timeline.specs.declared.lookups.YearEntries.TheVariants as year
 use Rattle.timeline.specs.Zone.{PlainRule}
 use Rattle.timeline.specs.Rule.{first_entry, second_entry}
 use Rattle.timeline.specs.Timeline.{offset_of}
-use Rattle.timeline.specs.Promises.{IsOfYear}
+use Rattle.timeline.specs.WallPromises.{IsOfYear}
 
 -- before its first year a rule has no transitions, and from year 2,147,483,647 on none but what that year begins with
 abbrev pub rule_entries_in : PlainRule → ℤ → YearEntries

@@ -1,6 +1,6 @@
 //! Whether a zone's offsets are less than a day.
 ghost use Rattle.std.specs.Prelude.{◌≡◌, ◌↔◌, IsTrue, All, ℤ, ◌+ℤ◌};
-ghost use Rattle.timeline.specs.Laws.{IsSmall};
+ghost use Rattle.timeline.specs.TableLaws.{IsSmall};
 
 use crate::data::ZoneData;
 

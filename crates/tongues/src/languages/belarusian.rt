@@ -1,4 +1,4 @@
-ghost use Rattle.tongues.specs.Languages.{belarusian};
+ghost use Rattle.tongues.specs.SlavicLanguages.{belarusian};
 
 use crate::counted::one_few_many;
 use crate::language::{Language, Layout};

@@ -1,4 +1,4 @@
-ghost use Rattle.tongues.specs.Languages.{chinese};
+ghost use Rattle.tongues.specs.AsianLanguages.{chinese};
 
 use crate::language::{Language, Layout};
 use crate::unit::TimeUnit;

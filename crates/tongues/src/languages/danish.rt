@@ -1,4 +1,4 @@
-ghost use Rattle.tongues.specs.Languages.{danish};
+ghost use Rattle.tongues.specs.GermanicLanguages.{danish};
 
 use crate::counted::one_or_more;
 use crate::language::{Language, Layout};

@@ -1,4 +1,4 @@
-ghost use Rattle.tongues.specs.Languages.{english};
+ghost use Rattle.tongues.specs.GermanicLanguages.{english};
 
 use crate::counted::one_or_more;
 use crate::language::{Language, Layout};

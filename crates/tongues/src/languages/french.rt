@@ -1,4 +1,4 @@
-ghost use Rattle.tongues.specs.Languages.{french};
+ghost use Rattle.tongues.specs.RomanceLanguages.{french};
 
 use crate::counted::one_or_more;
 use crate::language::{Language, Layout};

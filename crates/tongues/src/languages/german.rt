@@ -1,4 +1,4 @@
-ghost use Rattle.tongues.specs.Languages.{german};
+ghost use Rattle.tongues.specs.GermanicLanguages.{german};
 
 use crate::counted::one_or_more;
 use crate::language::{Language, Layout};

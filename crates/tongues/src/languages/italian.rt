@@ -1,4 +1,4 @@
-ghost use Rattle.tongues.specs.Languages.{italian};
+ghost use Rattle.tongues.specs.RomanceLanguages.{italian};
 
 use crate::counted::one_or_more;
 use crate::language::{Language, Layout};

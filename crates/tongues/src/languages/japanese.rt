@@ -1,4 +1,4 @@
-ghost use Rattle.tongues.specs.Languages.{japanese};
+ghost use Rattle.tongues.specs.AsianLanguages.{japanese};
 
 use crate::language::{Language, Layout};
 use crate::unit::TimeUnit;

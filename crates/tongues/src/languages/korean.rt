@@ -1,4 +1,4 @@
-ghost use Rattle.tongues.specs.Languages.{korean};
+ghost use Rattle.tongues.specs.AsianLanguages.{korean};
 
 use crate::language::{Language, Layout};
 use crate::unit::TimeUnit;

@@ -1,4 +1,4 @@
-ghost use Rattle.tongues.specs.Languages.{polish};
+ghost use Rattle.tongues.specs.SlavicLanguages.{polish};
 
 use crate::counted::one_few_many;
 use crate::language::{Language, Layout};

@@ -1,4 +1,4 @@
-ghost use Rattle.tongues.specs.Languages.{portuguese};
+ghost use Rattle.tongues.specs.RomanceLanguages.{portuguese};
 
 use crate::counted::one_or_more;
 use crate::language::{Language, Layout};

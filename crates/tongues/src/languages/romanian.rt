@@ -1,4 +1,4 @@
-ghost use Rattle.tongues.specs.Languages.{romanian};
+ghost use Rattle.tongues.specs.RomanceLanguages.{romanian};
 
 use crate::counted::one_or_more;
 use crate::language::{Language, Layout};

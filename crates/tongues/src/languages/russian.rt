@@ -1,4 +1,4 @@
-ghost use Rattle.tongues.specs.Languages.{russian};
+ghost use Rattle.tongues.specs.SlavicLanguages.{russian};
 
 use crate::counted::one_few_many;
 use crate::language::{Language, Layout};

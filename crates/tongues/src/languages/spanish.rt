@@ -1,4 +1,4 @@
-ghost use Rattle.tongues.specs.Languages.{spanish};
+ghost use Rattle.tongues.specs.RomanceLanguages.{spanish};
 
 use crate::counted::one_or_more;
 use crate::language::{Language, Layout};

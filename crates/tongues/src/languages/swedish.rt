@@ -1,4 +1,4 @@
-ghost use Rattle.tongues.specs.Languages.{swedish};
+ghost use Rattle.tongues.specs.GermanicLanguages.{swedish};
 
 use crate::counted::one_or_more;
 use crate::language::{Language, Layout};

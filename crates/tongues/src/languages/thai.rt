@@ -1,4 +1,4 @@
-ghost use Rattle.tongues.specs.Languages.{thai};
+ghost use Rattle.tongues.specs.AsianLanguages.{thai};
 
 use crate::language::{Language, Layout};
 use crate::unit::TimeUnit;

@@ -1,4 +1,4 @@
-ghost use Rattle.tongues.specs.Languages.{ukrainian};
+ghost use Rattle.tongues.specs.SlavicLanguages.{ukrainian};
 
 use crate::counted::one_few_many;
 use crate::language::{Language, Layout};

@@ -4,14 +4,15 @@ use Rattle.std.specs.Cmp.Lexicographic.{slice_cmp}
 use Rattle.std.specs.Ordering.{nat_cmp, is_lt}
 use Rattle.std.specs.Prelude.{ℕ, Bool, List, [], ◌∷◌, ◌++◌, length, map, Option, Some, None, ℤ, pos, ◌+ℤ◌, ◌*ℤ◌, ◌<◌, All, Result, Ok, Err, ◌≡◌, Vec}
 use Rattle.std.specs.declared.alloc.Global.{Global}
-use Rattle.resb_tree.specs.Tree.{◌>>=◌}
-use Rattle.resb_tree.specs.Fields.{integers_in}
+use Rattle.resb_tree.specs.Bodies.{◌>>=◌}
+use Rattle.resb_tree.specs.Contents.{integers_in}
 use Rattle.resb_tree.specs.declared.resource.Resource.{Resource}
 use Rattle.timeline.specs.Table.{PlainSeconds}
 use Rattle.timeline.specs.Zone.{RawRule}
 use Rattle.zoneinfo64.specs.Inside.RuleView.{rule_for}
 use Rattle.zoneinfo64.specs.NamedZone.{NamedZone, name_text}
-use Rattle.zoneinfo64.specs.RuleFields.{as_i32, raw_rule, rule_named}
+use Rattle.zoneinfo64.specs.RuleDates.{as_i32}
+use Rattle.zoneinfo64.specs.RuleFields.{raw_rule, rule_named}
 use Rattle.zoneinfo64.specs.declared.error.BinaryDeserializerError.{BinaryDeserializerError}
 use Rattle.zoneinfo64.specs.declared.error.BinaryDeserializerError.TheVariants as errors
 

@@ -1,12 +1,15 @@
 -- The fields of a zone as one pass over its entries finds them.
 use Rattle.std.specs.Prelude.{ℕ, List, ◌++◌, length, map, Option, Some, None, ℤ, if◌then◌else◌, codes}
 use Rattle.std.specs.Str.{bytes_eq}
-use Rattle.resb_tree.specs.Fields.{field_in, first_with, integers_in, bytes_in}
-use Rattle.resb_tree.specs.Tree.{◌>>=◌}
+use Rattle.resb_tree.specs.Fields.{field_in, first_with}
+use Rattle.resb_tree.specs.Contents.{integers_in, bytes_in}
+use Rattle.resb_tree.specs.Bodies.{◌>>=◌}
 use Rattle.resb_tree.specs.declared.resource.Resource.{Resource}
 use Rattle.timeline.specs.Zone.{RawRule, PlainZone}
-use Rattle.zoneinfo64.specs.RuleFields.{as_i32, rule_fields}
-use Rattle.zoneinfo64.specs.ZoneFields.{offset_pairs, initial_of, list_or_empty, wide_seconds, table_of, zone_with}
+use Rattle.zoneinfo64.specs.RuleDates.{as_i32}
+use Rattle.zoneinfo64.specs.RuleFields.{rule_fields}
+use Rattle.zoneinfo64.specs.ZoneLists.{offset_pairs, initial_of, list_or_empty, wide_seconds}
+use Rattle.zoneinfo64.specs.ZoneFields.{table_of, zone_with}
 use Rattle.zoneinfo64.specs.declared.parts.Field.{Field}
 use Rattle.zoneinfo64.specs.declared.parts.Field.TheVariants as field
 use Rattle.zoneinfo64.specs.declared.parts.ZoneParts.{ZoneParts}

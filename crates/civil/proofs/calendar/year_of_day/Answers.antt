@@ -1,5 +1,5 @@
 use Rattle.std.proofs.Common.{◌≡◌, refl, ℤ, to_z, of_z, w32, w64, subst, arith}
-use Rattle.civil.specs.Calendar.{HoldsDay}
+use Rattle.civil.specs.CivilDates.{HoldsDay}
 use Rattle.civil.proofs.SignedLemmas.{signed_arith}
 use Rattle.civil.proofs.CalendarLemmas.{first_start_i32, last_start_i32, year_of_32_bits}
 use Rattle.civil.proofs.calendar.year_of_day.Goals as goal

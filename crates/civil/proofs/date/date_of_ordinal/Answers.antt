@@ -1,5 +1,6 @@
 use Rattle.std.proofs.Common.{◌≡◌, ◌↔◌, ℤ, ◌+ℤ◌, ◌-◌, IsSome, IfSome, to_z, of_z, to_z-of_z, w32, w64, subst, ap, arith}
-use Rattle.civil.specs.Calendar.{year_start, days_in_year, IsDay}
+use Rattle.civil.specs.Calendar.{year_start, days_in_year}
+use Rattle.civil.specs.CivilDates.{IsDay}
 use Rattle.civil.specs.Ordinals.{IsOrdinal, ordinal_day}
 use Rattle.civil.proofs.SignedLemmas.{signed_casts}
 use Rattle.civil.proofs.Setters.{ordinal_day-is, ordinal_inside}

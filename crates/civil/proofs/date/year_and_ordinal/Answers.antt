@@ -1,5 +1,5 @@
 use Rattle.std.proofs.Common.{pos, negsuc, ◌≤ℤ◌, ◌+◌, to_z, of_z, w32, arith}
-use Rattle.civil.specs.Calendar.{HoldsDay}
+use Rattle.civil.specs.CivilDates.{HoldsDay}
 use Rattle.civil.proofs.SignedLemmas.{signed_arith}
 use Rattle.civil.proofs.DateOfDay.{year_in_calendar}
 use Rattle.civil.proofs.Setters.{ordinal_day-is}

@@ -2,7 +2,7 @@ use Rattle.std.proofs.Common.{◌≡◌, ◌<◌, ◌∷◌, length, take, get_o
 use Rattle.std.proofs.lemmas.List.{take_more}
 use Rattle.std.proofs.lemmas.List.Sums.{prefix_len-drop_yes}
 use Rattle.std.proofs.lemmas.Grind.{pow_more}
-use Rattle.interim.specs.Tokens.{is_digit, decimal_from}
+use Rattle.interim.specs.Characters.{is_digit, decimal_from}
 use Rattle.interim.proofs.Digits.{decimal_from-append}
 use Rattle.interim.proofs.lexer.number.Goals as goal
 

@@ -1,6 +1,6 @@
 use Rattle.std.proofs.Common.{◌≡◌, ◌+◌, ◌-◌, ◌^◌, ◌∷◌, ◌<◌, ◌≤◌, take, drop}
 use Rattle.std.specs.List.{prefix_len}
-use Rattle.interim.specs.Tokens.{is_digit, decimal_from}
+use Rattle.interim.specs.Characters.{is_digit, decimal_from}
 use Rattle.interim.proofs.lexer.number.Given as goal
 
 abbrev pub invariant-loop-len : goal.invariant-loop-len

@@ -1,7 +1,7 @@
 use Rattle.std.proofs.Common.{◌≡◌, ℕ, pos, ◌-ℤ◌, neg_ℤ, to_z, of_z, ◌-◌, List, length, take, drop, get_or, codes, true, w32, arith}
 use Rattle.std.proofs.lemmas.List.{take_rest}
 use Rattle.std.proofs.lemmas.Slice.Eq.{text_from_reads}
-use Rattle.interim.specs.Tokens.{is_digit}
+use Rattle.interim.specs.Characters.{is_digit}
 use Rattle.interim.specs.Words.{month_of}
 use Rattle.interim.proofs.PlainBytes.{digit_is}
 use Rattle.interim.proofs.PlainShapes.{back_count, back_is, no_month}

@@ -1,7 +1,7 @@
 use Rattle.std.proofs.Common.{◌≡◌, ℕ, ◌+◌, ◌*◌, List, [], ◌∷◌, pos, to_z, get_or, w32, refl, arith}
 use Rattle.std.proofs.lemmas.Int.{ints}
 use Rattle.std.proofs.lemmas.Slice.Eq.{text_from_reads}
-use Rattle.interim.specs.Tokens.{decimal_from}
+use Rattle.interim.specs.Characters.{decimal_from}
 use Rattle.interim.proofs.PlainBytes.{Pair, between, between_there, pair_is, sixteen_read}
 use Rattle.interim.proofs.plain.dashed.Goals as goal
 

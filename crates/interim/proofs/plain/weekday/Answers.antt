@@ -1,6 +1,6 @@
 use Rattle.std.proofs.Common.{◌≡◌, ℕ, ◌-◌, List, length, take, drop, get_or, true, arith}
 use Rattle.std.proofs.lemmas.List.{take_rest}
-use Rattle.interim.specs.Tokens.{is_digit}
+use Rattle.interim.specs.Characters.{is_digit}
 use Rattle.interim.proofs.PlainBytes.{digit_is}
 use Rattle.interim.proofs.PlainShapes.{IsHalf, half_there, weekday_is}
 use Rattle.interim.proofs.plain.weekday.Goals as goal

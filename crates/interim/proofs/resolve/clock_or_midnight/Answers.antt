@@ -1,7 +1,9 @@
 use Rattle.std.proofs.Common.{◌≡◌, ℕ, Option, Some, None, sym, ap, ◌∙◌}
 use Rattle.std.proofs.lemmas.Result.{err_from_is_err_and}
 use Rattle.interim.specs.declared.types.TimeSpec.{TimeSpec}
-use Rattle.interim.specs.Meaning.{Lands, aim, clock_or, midnight, time_at}
+use Rattle.interim.specs.Meaning.{Lands}
+use Rattle.interim.specs.Aims.{aim, clock_or, midnight}
+use Rattle.interim.specs.DatesAndTimes.{time_at}
 use Rattle.interim.proofs.Answered.{refused_lands, lands_at, time_at-midnight}
 use Rattle.interim.proofs.resolve.clock_or_midnight.Goals as goal
 

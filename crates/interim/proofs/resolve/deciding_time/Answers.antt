@@ -1,4 +1,4 @@
-use Rattle.interim.specs.Meaning.{time_at}
+use Rattle.interim.specs.DatesAndTimes.{time_at}
 use Rattle.interim.proofs.resolve.deciding_time.Goals as goal
 
 pub returns-in-None : goal.returns-in-None

@@ -6,7 +6,10 @@ use Rattle.interim.specs.declared.types.Interval.{Interval}
 use Rattle.interim.specs.declared.types.Interval.TheVariants.{Months}
 use Rattle.interim.specs.declared.types.DateSpec.TheVariants.{Relative}
 use Rattle.interim.specs.Refusal.{within}
-use Rattle.interim.specs.Meaning.{Aim, Wall, Lands, LeadsTo, clock_or, midnight}
+use Rattle.interim.specs.Aims.{Aim, clock_or, midnight}
+use Rattle.interim.specs.Walls.{Wall}
+use Rattle.interim.specs.Meaning.{Lands}
+use Rattle.interim.specs.PartMeanings.{LeadsTo}
 use Rattle.interim.proofs.Answered.{refused_lands, answers_weaker}
 use Rattle.interim.proofs.resolve.from_wall.Goals as goal
 

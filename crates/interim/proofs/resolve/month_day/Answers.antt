@@ -2,7 +2,8 @@ use Rattle.std.proofs.Common.{◌≡◌, ℤ, ◌+ℤ◌, rules, sym, ap, ◌∙
 use Rattle.std.proofs.lemmas.Result.{err_from_is_err_and}
 use Rattle.std.specs.Ordering.{int_cmp}
 use Rattle.civil.proofs.SignedLemmas.{signed_arith}
-use Rattle.interim.specs.Meaning.{date_at, month_day, step_by}
+use Rattle.interim.specs.DatesAndTimes.{date_at}
+use Rattle.interim.specs.Walls.{month_day, step_by}
 use Rattle.interim.proofs.Answered.{refused_on, gives_at, month_day-none, month_day-is}
 use Rattle.interim.proofs.resolve.month_day.Goals as goal
 

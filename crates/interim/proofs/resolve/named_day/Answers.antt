@@ -1,5 +1,6 @@
 use Rattle.std.proofs.Common.{refl}
-use Rattle.interim.specs.Meaning.{Wall, week_day, month_day}
+use Rattle.interim.specs.Walls.{Wall, month_day}
+use Rattle.interim.specs.NamedDates.{week_day}
 use Rattle.interim.proofs.Answered.{gives_wants}
 use Rattle.interim.proofs.resolve.named_day.Goals as goal
 

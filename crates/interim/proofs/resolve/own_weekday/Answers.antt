@@ -1,7 +1,9 @@
 use Rattle.std.proofs.Common.{◌≡◌, false, true, ℤ, rules, sym, ap, ◌∙◌, to_z, of_z, to_z-of_z, w32, FitsSigned}
 use Rattle.std.proofs.lemmas.Result.{err_from_is_err_and}
 use Rattle.std.specs.Ordering.{int_cmp, int_eq}
-use Rattle.interim.specs.Meaning.{Wall, own_weekday, step_by, time_cmp, weeks_on}
+use Rattle.interim.specs.Walls.{Wall, step_by}
+use Rattle.interim.specs.NamedDates.{own_weekday, weeks_on}
+use Rattle.interim.specs.DatesAndTimes.{time_cmp}
 use Rattle.interim.proofs.Answered.{refused_on, gives_at, gives_wants, own_weekday-other, own_weekday-none, own_weekday-is}
 use Rattle.interim.proofs.resolve.own_weekday.Goals as goal
 

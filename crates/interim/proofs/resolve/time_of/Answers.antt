@@ -1,6 +1,6 @@
 use Rattle.std.proofs.Common.{arith, ◌≡◌, ℕ, ◌%◌, Bool, true, false, cond, Some, None}
 use Rattle.std.specs.Prelude.{option_and_then}
-use Rattle.interim.specs.Meaning.{time_at, with_micros}
+use Rattle.interim.specs.DatesAndTimes.{time_at, with_micros}
 use Rattle.interim.proofs.resolve.time_of.Goals as goal
 
 same_case : (p : Bool) (x : ℕ) (t : ℕ × ℕ) → cond p (Some (x, 0)) None ≡ Some t → option_and_then (with_micros 0) (cond p (Some (x, 0)) None) ≡ Some t

@@ -5,7 +5,8 @@ use Rattle.civil.specs.Calendar.{weekday_of}
 use Rattle.civil.proofs.SignedLemmas.{signed_casts}
 use Rattle.interim.specs.declared.types.Direction.{Direction}
 use Rattle.interim.specs.Refusal.{within}
-use Rattle.interim.specs.Meaning.{Wall, own_weekday, sought, step_by, week_day, weeks_more, weeks_on}
+use Rattle.interim.specs.Walls.{Wall, sought, step_by}
+use Rattle.interim.specs.NamedDates.{own_weekday, week_day, weeks_more, weeks_on}
 use Rattle.interim.proofs.Answered.{refused_on, gives_at, gives_wants, week_day-not_named, week_day-not_sided, week_day-not_decided, week_day-is}
 use Rattle.interim.proofs.resolve.week_day.Goals as goal
 

@@ -1,6 +1,6 @@
 use Rattle.std.proofs.Common.{◌≡◌, ◌++◌, drop}
 use Rattle.resb.specs.Pool.{bare}
-use Rattle.resb.specs.Writing.{pool_bytes}
+use Rattle.resb.specs.TreeKeys.{pool_bytes}
 use Rattle.resb.proofs.bundle.pool_bytes.Given as goal
 
 abbrev pub invariant-loop-key : goal.invariant-loop-key

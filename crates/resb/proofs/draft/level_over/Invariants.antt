@@ -1,5 +1,5 @@
 use Rattle.std.proofs.Common.{◌≡◌, drop, max}
-use Rattle.resb.specs.Writing.{most_of}
+use Rattle.resb.specs.WrittenFiles.{most_of}
 use Rattle.resb.proofs.draft.level_over.Given as goal
 
 abbrev pub invariant-loop-level : goal.invariant-loop-level

@@ -1,8 +1,8 @@
 use Rattle.std.proofs.Common.{◌≡◌, ◌≤◌, ◌++◌, drop}
 use Rattle.std.specs.Prelude.{map}
 use Rattle.resb.specs.Pool.{bare}
-use Rattle.resb.specs.Plan.{places_in}
-use Rattle.resb.specs.Writing.{most_of}
+use Rattle.resb.specs.KeyPlan.{places_in}
+use Rattle.resb.specs.WrittenFiles.{most_of}
 use Rattle.resb.proofs.draft.push_places.Given as goal
 
 abbrev pub invariant-loop-key : goal.invariant-loop-key

@@ -1,7 +1,7 @@
 use Rattle.std.proofs.Common.{[], ◌∷◌, ◌++◌, ◌+◌, drop, map}
 use Rattle.resb.specs.Pool.{bare}
-use Rattle.resb.specs.Plan.{told_values}
-use Rattle.resb.specs.Writing.{keys_met, item_keys, entry_keys}
+use Rattle.resb.specs.KeyPlan.{told_values}
+use Rattle.resb.specs.TreeKeys.{keys_met, item_keys, entry_keys}
 use Rattle.resb.proofs.Pools.{pooled_on}
 use Rattle.resb.proofs.LaidSteps.{item_cons}
 use Rattle.resb.proofs.key_pool.+meet.Goals as goal

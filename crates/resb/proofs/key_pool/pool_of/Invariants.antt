@@ -3,7 +3,7 @@ use Rattle.std.specs.BTreeMap.{get_by}
 use Rattle.std.specs.Cmp.Lexicographic.{slice_cmp}
 use Rattle.std.specs.Ordering.{nat_cmp}
 use Rattle.resb.specs.Pool.{bare, place_told, pool_end}
-use Rattle.resb.specs.Plan.{pooled}
+use Rattle.resb.specs.KeyPlan.{pooled}
 use Rattle.resb.proofs.key_pool.pool_of.Given as goal
 
 abbrev pub invariant-loop-key : goal.invariant-loop-key

@@ -1,7 +1,7 @@
 use Rattle.std.proofs.Common.{◌≡◌, drop}
 use Rattle.std.specs.Prelude.{map}
-use Rattle.resb.specs.Plan.{values_in}
-use Rattle.resb.specs.Writing.{any_bad, has_bad_key}
+use Rattle.resb.specs.KeyPlan.{values_in}
+use Rattle.resb.specs.BadKeys.{any_bad, has_bad_key}
 use Rattle.resb.proofs.measures.+bad.Given as goal
 
 abbrev pub invariant-bad_key_in_items-loop-item : goal.invariant-bad_key_in_items-loop-item

@@ -1,6 +1,6 @@
 use Rattle.std.proofs.Common.{◌≡◌, drop}
 use Rattle.resb_tree.specs.Keys.{keys_in}
-use Rattle.resb.specs.Writing.{all_keys}
+use Rattle.resb.specs.BadKeys.{all_keys}
 use Rattle.resb.proofs.measures.all_keys.Given as goal
 
 abbrev pub invariant-loop-key : goal.invariant-loop-key

@@ -1,5 +1,5 @@
 use Rattle.std.proofs.Common.{◌≡◌, drop}
-use Rattle.resb.specs.Writing.{is_key}
+use Rattle.resb.specs.BadKeys.{is_key}
 use Rattle.resb.proofs.measures.is_key.Given as goal
 
 abbrev pub invariant-loop-byte : goal.invariant-loop-byte

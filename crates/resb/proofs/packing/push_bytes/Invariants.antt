@@ -1,5 +1,5 @@
 use Rattle.std.proofs.Common.{◌≡◌, ◌++◌, length}
-use Rattle.resb.specs.Writing.{pack_bytes}
+use Rattle.resb.specs.Packing.{pack_bytes}
 use Rattle.resb.proofs.packing.push_bytes.Given as goal
 
 abbrev pub invariant-loop-rest : goal.invariant-loop-rest

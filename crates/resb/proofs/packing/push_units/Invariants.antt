@@ -1,5 +1,5 @@
 use Rattle.std.proofs.Common.{◌≡◌, ◌++◌, length}
-use Rattle.resb.specs.Writing.{pack_units}
+use Rattle.resb.specs.Packing.{pack_units}
 use Rattle.resb.proofs.packing.push_units.Given as goal
 
 abbrev pub invariant-loop-rest : goal.invariant-loop-rest

@@ -1,6 +1,6 @@
 use Rattle.std.proofs.Common.{◌≤◌, length, refl, sym, arith}
 use Rattle.resb_tree.specs.declared.resource.Resource.TheVariants as r
-use Rattle.resb.specs.Plan.{values_in}
+use Rattle.resb.specs.KeyPlan.{values_in}
 use Rattle.resb.specs.Pool.{bare}
 use Rattle.resb.proofs.LaidSteps.{length-values}
 use Rattle.resb.proofs.Rooms.{err_on}

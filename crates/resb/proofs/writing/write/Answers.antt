@@ -1,8 +1,9 @@
 use Rattle.std.proofs.Common.{◌≡◌, ◌∙◌, refl, sym, false, ℕ, List, [], ◌∷◌, Vec, Global}
 use Rattle.resb.specs.declared.pool.KeyPool.{KeyPool}
-use Rattle.resb.specs.Drafts.{Holds}
+use Rattle.resb.specs.DraftRows.{Holds}
 use Rattle.resb.specs.Pool.{bare}
-use Rattle.resb.specs.Writing.{key_pool, any_bad, has_bad_key}
+use Rattle.resb.specs.TreeKeys.{key_pool}
+use Rattle.resb.specs.BadKeys.{any_bad, has_bad_key}
 use Rattle.resb.proofs.RowParts.{row_kept}
 use Rattle.resb.proofs.WrittenWords.{pool_told, pool_is, pool_near, pool_good, over_end, kept_room, error_on, refusal_told, answer_told}
 use Rattle.resb.proofs.writing.write.Goals as goal

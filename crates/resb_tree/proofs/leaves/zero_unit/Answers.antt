@@ -1,5 +1,5 @@
 use Rattle.std.proofs.Common.{◌≡◌, ◌+◌, ◌*◌, ◌/◌, ◌≢◌, ◌∙◌, sym, arith}
-use Rattle.resb_tree.specs.Tree.{area_len, area_unit}
+use Rattle.resb_tree.specs.Bodies.{area_len, area_unit}
 use Rattle.resb_tree.specs.Forms.{told}
 use Rattle.resb_tree.proofs.Scans.{zero_on, zero_ends}
 use Rattle.resb_tree.proofs.leaves.zero_unit.Goals as goal

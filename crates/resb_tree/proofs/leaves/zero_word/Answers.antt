@@ -1,5 +1,5 @@
 use Rattle.std.proofs.Common.{◌∙◌, arith}
-use Rattle.resb_tree.specs.Tree.{area_len, area_unit}
+use Rattle.resb_tree.specs.Bodies.{area_len, area_unit}
 use Rattle.resb_tree.specs.Forms.{told}
 use Rattle.resb_tree.proofs.Scans.{zero_past, zero_second}
 use Rattle.resb_tree.proofs.leaves.zero_word.Goals as goal

@@ -1,5 +1,5 @@
 use Rattle.std.proofs.Common.{◌≡◌, ◌-◌, ◌*◌, ◌≤◌}
-use Rattle.resb_tree.specs.Tree.{area_len, area_unit}
+use Rattle.resb_tree.specs.Bodies.{area_len, area_unit}
 use Rattle.resb_tree.specs.Forms.{told}
 use Rattle.resb_tree.specs.Reading.{zero_from}
 use Rattle.resb_tree.proofs.leaves.zero_word.Given as goal

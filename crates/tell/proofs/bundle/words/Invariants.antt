@@ -1,6 +1,6 @@
 use Rattle.std.proofs.Common.{◌≡◌, ◌≤◌, ◌+◌, ◌/◌, ◌++◌, length, vec_len}
 use Rattle.std.specs.Prelude.{vec_capacity}
-use Rattle.tell.specs.Run.{words_of}
+use Rattle.tell.specs.BundleZones.{words_of}
 use Rattle.tell.proofs.bundle.words.Given as goal
 
 abbrev pub invariant-packing : goal.invariant-packing

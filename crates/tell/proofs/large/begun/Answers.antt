@@ -1,6 +1,6 @@
 use Rattle.std.proofs.Common.{ℕ, List, [], ◌<◌, subst, arith}
 use Rattle.std.specs.Prelude.{IfOk, ◌≡◌}
-use Rattle.resb.specs.Drafts.{Holds}
+use Rattle.resb.specs.DraftRows.{Holds}
 use Rattle.tell.proofs.LoadDraft.{no_zone_keys, all_keys_met}
 use Rattle.tell.proofs.large.begun.Goals as goal
 

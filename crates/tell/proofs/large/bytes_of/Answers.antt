@@ -1,7 +1,7 @@
 use Rattle.std.proofs.Common.{◌≡◌, ◌≤◌, ◌<◌, ◌+◌, ◌*◌, ◌/◌, ◌%◌, ◌^◌, ℕ, List, [], ◌∷◌, ◌++◌, length, take, append-nil, append_assoc, refl, sym, ap, ◌∙◌, rules, arith}
 use Rattle.std.specs.Prelude.{get_or}
 use Rattle.std.proofs.lemmas.List.{take_all, take_more}
-use Rattle.tell.specs.Run.{words_of}
+use Rattle.tell.specs.BundleZones.{words_of}
 use Rattle.tell.proofs.large.bytes_of.Goals as goal
 
 all_words : (bytes words : List ℕ) (i : ℕ) → length words ≤ i → ((tail : List ℕ) → words_of (bytes ++ tail) ≡ take i words ++ words_of tail) → words_of bytes ≡ words

@@ -1,6 +1,6 @@
 use Rattle.std.proofs.Common.{◌≡◌, ◌≤◌, ◌+◌, ◌-◌, ◌*◌, ◌++◌, List, ℕ, take, length, vec_len}
 use Rattle.std.specs.Prelude.{vec_capacity}
-use Rattle.tell.specs.Run.{words_of}
+use Rattle.tell.specs.BundleZones.{words_of}
 use Rattle.tell.proofs.large.bytes_of.Given as goal
 
 -- the words of the bytes so far are those that were gone through, whatever bytes follow, and there is room for the rest

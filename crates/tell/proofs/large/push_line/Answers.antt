@@ -1,5 +1,6 @@
 use Rattle.std.proofs.Common.{◌≡◌, ℕ, List, [], ◌∷◌, ◌++◌, append_assoc, refl, codes, ◌∙◌}
-use Rattle.tell.specs.Load.{zone_name, load_phrase}
+use Rattle.tell.specs.LoadZones.{zone_name}
+use Rattle.tell.specs.Load.{load_phrase}
 use Rattle.tell.proofs.large.push_line.Goals as goal
 
 -- four parts behind one another

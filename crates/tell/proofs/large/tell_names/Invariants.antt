@@ -1,7 +1,7 @@
 use Rattle.std.proofs.Common.{ℕ, List, ◌++◌}
 use Rattle.resb_tree.specs.declared.resource.Resource.{Resource}
-use Rattle.resb.specs.Drafts.{Holds}
-use Rattle.tell.specs.Load.{up_to}
+use Rattle.resb.specs.DraftRows.{Holds}
+use Rattle.tell.specs.LoadZones.{up_to}
 use Rattle.tell.specs.Inside.LoadTree.{name_tree}
 use Rattle.tell.proofs.large.tell_names.Given as goal
 

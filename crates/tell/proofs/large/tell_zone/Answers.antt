@@ -1,8 +1,8 @@
 use Rattle.std.proofs.Common.{◌≡◌, ℕ, [], ◌∷◌, ◌++◌, refl, rules, subst, codes, w32}
 use Rattle.std.specs.Int.{cast_unsigned}
 use Rattle.resb_tree.specs.declared.resource.Resource.TheVariants as r
-use Rattle.resb.specs.Drafts.{Holds}
-use Rattle.tell.specs.Load.{load_offset}
+use Rattle.resb.specs.DraftRows.{Holds}
+use Rattle.tell.specs.LoadZones.{load_offset}
 use Rattle.tell.proofs.large.tell_zone.Goals as goal
 
 pub returns : goal.returns

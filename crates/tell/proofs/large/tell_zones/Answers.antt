@@ -1,5 +1,5 @@
 use Rattle.std.proofs.Common.{◌≡◌, ◌++◌, arith}
-use Rattle.tell.specs.Load.{up_to}
+use Rattle.tell.specs.LoadZones.{up_to}
 use Rattle.tell.specs.Inside.LoadTree.{zone_tree}
 use Rattle.tell.proofs.LoadDraft.{length_up_to, holds_next, holds_all}
 use Rattle.tell.proofs.large.tell_zones.Goals as goal

@@ -1,7 +1,7 @@
 use Rattle.std.proofs.Common.{[], ◌∷◌, codes, refl}
 use Rattle.resb_tree.specs.declared.resource.Resource.TheVariants as r
-use Rattle.resb.specs.Writing.{key_pool}
-use Rattle.tell.specs.Load.{up_to}
+use Rattle.resb.specs.TreeKeys.{key_pool}
+use Rattle.tell.specs.LoadZones.{up_to}
 use Rattle.tell.specs.Inside.LoadTree.{zone_tree, name_tree, region_tree, load_tree}
 use Rattle.tell.proofs.large.words.Goals as goal
 

@@ -4,7 +4,7 @@ use Rattle.civil.proofs.SignedLemmas.{signed_arith}
 use Rattle.timeline.specs.declared.offset.Transition.{Transition}
 use Rattle.timeline.specs.Rule.{first_entry, second_entry}
 use Rattle.timeline.specs.Timeline.{offset_of}
-use Rattle.timeline.specs.Laws.{step}
+use Rattle.timeline.specs.Neighbours.{step}
 use Rattle.timeline.specs.Inside.KeptRules.{KeptRule, IsYearOf}
 use Rattle.timeline.specs.Inside.CheckSteps.{walls, example_day}
 use Rattle.timeline.proofs.KeptRules.{kept-raw, kept-sum}

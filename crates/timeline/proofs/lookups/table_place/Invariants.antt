@@ -1,7 +1,7 @@
 use Rattle.std.proofs.Common.{◌≡◌, ℕ, ◌-◌, ◌<◌, ◌≤◌, length, Some, ◌<ℤ◌, ◌≤ℤ◌}
 use Rattle.std.specs.List.{slice_get}
 use Rattle.timeline.specs.declared.offset.Transition.{Transition}
-use Rattle.timeline.specs.Laws.{KeepsOrder}
+use Rattle.timeline.specs.TableLaws.{KeepsOrder}
 use Rattle.timeline.proofs.Probes.{AreLeft}
 use Rattle.timeline.proofs.lookups.table_place.Given as goal
 

@@ -2,7 +2,7 @@ use Rattle.std.proofs.Common.{◌≡◌, false, true, ◌-ℤ◌, ap, refl, arit
 use Rattle.std.proofs.lemmas.Int.{ints}
 use Rattle.civil.proofs.SignedLemmas.{signed_arith}
 use Rattle.civil.specs.Times.{wall_of}
-use Rattle.zoned.specs.Answers.{first_offset}
+use Rattle.zoned.specs.CivilAnswers.{first_offset}
 use Rattle.zoned.proofs.PlacedSeconds.{placed-civil}
 use Rattle.zoned.proofs.placing.placed.Goals as goal
 

@@ -1,6 +1,6 @@
 use Rattle.std.proofs.Common.{w64}
 use Rattle.std.proofs.lemmas.Int.{to_z-of_z}
-use Rattle.zoned.specs.Answers.{IsCivil, civil_map}
+use Rattle.zoned.specs.CivilAnswers.{IsCivil, civil_map}
 use Rattle.zoneinfo64.specs.OffsetView.{seconds_told}
 use Rattle.zoneinfo64.specs.ZoneOffsets.{zone_off, IsSound}
 use Rattle.zoneinfo64.proofs.ZoneCivil.{counted_in, mapped_in}

@@ -1,7 +1,7 @@
 use Rattle.std.proofs.Common.{◌≡◌, IsTrue, length}
 use Rattle.timeline.specs.Table.{sums_fit}
 use Rattle.zoneinfo64.specs.Inside.Steps.{with_front}
-use Rattle.zoneinfo64.specs.ZoneFields.{offset_pairs}
+use Rattle.zoneinfo64.specs.ZoneLists.{offset_pairs}
 use Rattle.zoneinfo64.proofs.fields.offset_pairs.Given as goal
 
 -- the pairs so far, and then those of the rest, are those of all words; and each of them fits

@@ -1,6 +1,6 @@
 use Rattle.std.proofs.Common.{◌≡◌, ◌≤◌, ◌+◌, ◌++◌, length, vec_len, map}
 use Rattle.std.specs.Prelude.{vec_capacity}
-use Rattle.zoneinfo64.specs.RuleFields.{as_i32}
+use Rattle.zoneinfo64.specs.RuleDates.{as_i32}
 use Rattle.zoneinfo64.proofs.fields.push_narrow.Given as goal
 
 abbrev pub invariant-loop-rest : goal.invariant-loop-rest

@@ -1,7 +1,7 @@
 use Rattle.std.proofs.Common.{◌≡◌, get_or, sym, ap, ◌∙◌}
 use Rattle.std.specs.Option.{unwrap_or}
 use Rattle.std.proofs.lemmas.Option.{unwrap_or-slice_get}
-use Rattle.zoneinfo64.specs.Bundle.{region_byte}
+use Rattle.zoneinfo64.specs.Regions.{region_byte}
 use Rattle.zoneinfo64.proofs.fields.region_byte_at.Goals as goal
 
 pub returns-in-None : goal.returns-in-None

@@ -1,6 +1,6 @@
 use Rattle.std.proofs.Common.{Some, sym, ap, subst, ◌∙◌}
 use Rattle.timeline.specs.Zone.{DateRule}
-use Rattle.zoneinfo64.specs.RuleFields.{as_i32}
+use Rattle.zoneinfo64.specs.RuleDates.{as_i32}
 use Rattle.timeline.specs.Ranges.{IsDateInRange}
 use Rattle.zoneinfo64.proofs.RuleWords.{date_given, date_refused, date_good}
 use Rattle.zoneinfo64.proofs.rule_words.date.Goals as goal

@@ -1,5 +1,5 @@
 use Rattle.std.proofs.Common.{◌≡◌, ◌↔◌, ℤ, pos, ◌+ℤ◌, ◌-ℤ◌, int_div, IsSome, subst, arith, to_z, of_z, w64}
-use Rattle.civil.specs.Calendar.{IsDay}
+use Rattle.civil.specs.CivilDates.{IsDay}
 use Rattle.civil.proofs.SignedLemmas.{signed_arith}
 use Rattle.civil.proofs.date.NaiveDate.checked_sub_signed.Goals as goal
 

@@ -1,5 +1,6 @@
 use Rattle.std.proofs.Common.{◌≡◌, ◌↔◌, ℕ, ℤ, min, IsSome, IfSome, rules, refl, ap, subst, ◌∙◌, arith, to_z, of_z, to_z-of_z, w32, w64, FitsSigned}
-use Rattle.civil.specs.Calendar.{IsDate, IsDateOf, day_of, days_in_month}
+use Rattle.civil.specs.CivilDates.{IsDate, IsDateOf}
+use Rattle.civil.specs.Calendar.{day_of, days_in_month}
 use Rattle.civil.specs.Months.{months_on, moved_year, moved_month}
 use Rattle.civil.proofs.SignedLemmas.{signed_arith}
 use Rattle.civil.proofs.DateOfDay.{moved_date}

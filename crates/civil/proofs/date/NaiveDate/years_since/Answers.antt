@@ -1,5 +1,5 @@
 use Rattle.std.proofs.Common.{◌≡◌, ◌∙◌, ◌↔◌, ℕ, ℤ, pos, ◌≤ℤ◌, IsSome, IfSome, subst, refl, arith, rules, to_z, of_z, to_z-of_z, w32, w64, FitsSigned}
-use Rattle.civil.specs.Calendar.{IsDateOf}
+use Rattle.civil.specs.CivilDates.{IsDateOf}
 use Rattle.civil.specs.Ages.{years_between}
 use Rattle.civil.proofs.SignedLemmas.{signed_arith}
 use Rattle.civil.proofs.DateOfDay.{moved_date}

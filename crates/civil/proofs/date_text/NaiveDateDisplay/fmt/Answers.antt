@@ -1,5 +1,5 @@
 use Rattle.std.proofs.Common.{◌≡◌, ◌∙◌, sym, refl, ap, arith, rules, to_z, of_z, to_z-of_z, w32, FitsSigned, unsigned_abs}
-use Rattle.civil.specs.Calendar.{IsDateOf}
+use Rattle.civil.specs.CivilDates.{IsDateOf}
 use Rattle.civil.specs.Dates.{year_sign}
 use Rattle.civil.proofs.SignedLemmas.{signed_arith}
 use Rattle.civil.proofs.DateOfDay.{moved_date}

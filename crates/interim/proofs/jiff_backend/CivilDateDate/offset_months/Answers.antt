@@ -6,7 +6,7 @@ use Rattle.civil.proofs.SignedLemmas.{signed_arith, signed_casts}
 use Rattle.jiff_core.specs.Date.{epoch_day}
 use Rattle.jiff_core.specs.declared.civil.date.Date.{Date}
 use Rattle.interim.specs.Jiff.{jiff_days}
-use Rattle.interim.specs.Meaning.{IsDateOn}
+use Rattle.interim.specs.DatesAndTimes.{IsDateOn}
 use Rattle.interim.specs.Refusal.{within}
 use Rattle.interim.proofs.JiffDays.{date_of, moved_in, moved_out}
 use Rattle.interim.proofs.jiff_backend.CivilDateDate.offset_months.Goals as goal

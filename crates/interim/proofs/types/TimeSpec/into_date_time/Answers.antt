@@ -2,7 +2,8 @@ use Rattle.std.proofs.Common.{◌≡◌, ℤ, Option, Some, pos, ◌+ℤ◌, ◌
 use Rattle.std.proofs.lemmas.Result.{err_from_is_err_and}
 use Rattle.civil.proofs.SignedLemmas.{signed_casts}
 use Rattle.interim.specs.Refusal.{within}
-use Rattle.interim.specs.Meaning.{AtSecond, Lands, aim, clock_on}
+use Rattle.interim.specs.Aims.{AtSecond, aim, clock_on}
+use Rattle.interim.specs.Meaning.{Lands}
 use Rattle.interim.proofs.Answered.{refused_lands, lands_nothing, lands_at, clock_on-no_time, clock_on-no_day, clock_on-is}
 use Rattle.interim.proofs.types.TimeSpec.into_date_time.Goals as goal
 

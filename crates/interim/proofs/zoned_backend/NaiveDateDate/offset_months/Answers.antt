@@ -1,5 +1,5 @@
 use Rattle.std.proofs.Common.{◌≡◌, false, true, ℤ, refl, ap, subst, ◌∙◌, to_z, of_z, to_z-of_z, w32}
-use Rattle.civil.specs.Calendar.{IsDay, IsDateOf}
+use Rattle.civil.specs.CivilDates.{IsDay, IsDateOf}
 use Rattle.civil.specs.Months.{months_on}
 use Rattle.civil.proofs.DateOfDay.{date_of_day}
 use Rattle.interim.proofs.Stretches.{found_day, no_day, date_on}

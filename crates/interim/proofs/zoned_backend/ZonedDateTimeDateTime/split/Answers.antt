@@ -4,7 +4,7 @@ use Rattle.civil.specs.Times.{wall_of}
 use Rattle.civil.proofs.SignedLemmas.{signed_arith}
 use Rattle.civil.proofs.WallParts.{wall_parts}
 use Rattle.zoned.specs.Moment.{second_of, fraction_of, offset_of}
-use Rattle.interim.specs.Meaning.{Wall}
+use Rattle.interim.specs.Walls.{Wall}
 use Rattle.interim.proofs.Stretches.{no_wall_day}
 use Rattle.interim.proofs.zoned_backend.ZonedDateTimeDateTime.split.Goals as goal
 use Rattle.interim.proofs.zoned_backend.ZonedDateTimeDateTime.split.Goals.{After-time, In-None}

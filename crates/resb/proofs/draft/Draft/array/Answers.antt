@@ -2,7 +2,7 @@ use Rattle.std.proofs.Common.{rules, ◌≡◌, ◌+◌, drop, length, arith}
 use Rattle.std.specs.Prelude.{vec_len}
 use Rattle.resb_tree.specs.declared.resource.Resource.TheVariants as r
 use Rattle.resb.specs.Pool.{place_of}
-use Rattle.resb.specs.Writing.{most_of}
+use Rattle.resb.specs.WrittenFiles.{most_of}
 use Rattle.resb.proofs.Folds.{depth-Array}
 use Rattle.resb.proofs.RowParents.{level_kept, array_more}
 use Rattle.resb.proofs.Rooms.{err_on}

@@ -4,9 +4,9 @@ use Rattle.std.proofs.lemmas.List.{length-map}
 use Rattle.resb_tree.specs.declared.error.ResbError.TheVariants.{TooLarge}
 use Rattle.resb_tree.specs.declared.resource.Resource.TheVariants as r
 use Rattle.resb_tree.specs.Weight.{sum_of}
-use Rattle.resb.specs.Plan.{values_in}
+use Rattle.resb.specs.KeyPlan.{values_in}
 use Rattle.resb.specs.Pool.{bare, place_of}
-use Rattle.resb.specs.Writing.{most_of}
+use Rattle.resb.specs.WrittenFiles.{most_of}
 use Rattle.resb.proofs.Folds.{depth-Table}
 use Rattle.resb.proofs.LaidSteps.{length-values}
 use Rattle.resb.proofs.RowParents.{level_kept, table_more}

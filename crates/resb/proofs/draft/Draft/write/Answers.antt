@@ -1,6 +1,7 @@
 use Rattle.std.proofs.Common.{◌≡◌, ◌≢◌, ◌∙◌, ◌+◌, ◌-◌, ◌*◌, ◌≤◌, ◌∷◌, [], length, ap, arith}
 use Rattle.resb.specs.Plan.{bundle_of}
-use Rattle.resb.specs.Writing.{key_pool, written}
+use Rattle.resb.specs.TreeKeys.{key_pool}
+use Rattle.resb.specs.WrittenFiles.{written}
 use Rattle.resb.proofs.RowParts.{row_written, row_light, row_denotes}
 use Rattle.resb.proofs.Rooms.{row_items, unwritten_err, not_one, no_words, too_heavy}
 use Rattle.resb.proofs.draft.Draft.write.Goals as goal

@@ -3,7 +3,7 @@ use Rattle.civil.specs.Clock.{wall_day, wall_clock}
 use Rattle.civil.specs.Times.{wall_of}
 use Rattle.civil.proofs.SignedLemmas.{signed_arith}
 use Rattle.civil.proofs.WallParts.{wall_parts}
-use Rattle.interim.specs.Meaning.{Wall}
+use Rattle.interim.specs.Walls.{Wall}
 use Rattle.interim.proofs.Stretches.{no_wall_day}
 use Rattle.tell.specs.Inside.LocatedView.{second_in, nanos_in}
 use Rattle.tell.proofs.located.LocatedDateTime.split.Goals as goal

@@ -1,5 +1,5 @@
 use Rattle.std.proofs.Common.{ℕ, ◌<◌, get_or, ℤ, ◌+ℤ◌}
-use Rattle.timeline.specs.Laws.{IsSmall}
+use Rattle.timeline.specs.TableLaws.{IsSmall}
 use Rattle.timeline.proofs.data.sizes.are_small_pairs.Given as goal
 
 abbrev pub invariant-loop-pair : goal.invariant-loop-pair

@@ -1,5 +1,5 @@
--- What holds of the definitions alone.
-use Rattle.std.specs.Prelude.{◌≡◌, ℕ, ◌<◌, ◌≤◌, pos, ◌≤ℤ◌, List, [], ◌∷◌, length, Some, None, Ok, IsSome, MatchResult, MatchOption, unsigned_abs}
+-- What holds of the parts that are read of a phrase (docs/GRAMMAR.md, "Parts").
+use Rattle.std.specs.Prelude.{ℕ, ◌<◌, ◌≤◌, pos, ◌≤ℤ◌, List, length, IsSome, MatchResult, MatchOption, unsigned_abs}
 use Rattle.interim.specs.declared.errors.DateError.{DateError}
 use Rattle.interim.specs.declared.errors.DateError.TheVariants as error
 use Rattle.interim.specs.declared.types.AbsDate.{AbsDate}
@@ -12,32 +12,7 @@ use Rattle.interim.specs.declared.types.Dialect.{Dialect}
 use Rattle.interim.specs.declared.types.TimeSpec.{TimeSpec}
 use Rattle.interim.specs.Grammar.{parts_of, time_of}
 use Rattle.interim.specs.Intervals.{count_of}
-use Rattle.interim.specs.PlainForm.{Names}
-use Rattle.interim.specs.Tokens.{Kind, Number, Token, phrase_tokens}
-
--- ---- tokens
-
--- from a byte on, each token takes a byte and stands behind the one before it, and none passes the end
-abbrev pub AreInOrder : ℕ → ℕ → List Token → Type 0
-AreInOrder from end [] = from ≤ end
-AreInOrder from end (t ∷ ts) = (from ≤ t.span.start) × (t.span.start < t.span.end) × AreInOrder t.span.end end ts
-
--- a number has at most four digits
-abbrev pub HasFewDigits : Kind → Type 0
-HasFewDigits (Number n) = n < 10000
-HasFewDigits other = Unit {0}
-
--- no number of the tokens has over four digits
-abbrev pub AllHaveFewDigits : List Token → Type 0
-AllHaveFewDigits [] = Unit {0}
-AllHaveFewDigits (t ∷ ts) = HasFewDigits t.kind × AllHaveFewDigits ts
-
--- tokens stand in order inside the phrase, and their numbers have at most four digits
-pub record TokensAreSound : Type 0 where
-  pub in_order : (phrase : List ℕ) → AreInOrder 0 (length phrase) (phrase_tokens phrase)
-  pub few_digits : (phrase : List ℕ) → AllHaveFewDigits (phrase_tokens phrase)
-
--- ---- what was read
+use Rattle.interim.specs.Tokens.{phrase_tokens}
 
 -- the numbers of a clock time, with an hour that pm may have shifted
 pub record IsSmallTime (time : TimeSpec) : Type 0 where
@@ -85,15 +60,3 @@ PartsAreSound = (dialect : Dialect) (phrase : List ℕ) → MatchResult (parts_o
 -- and so of a clock time alone
 abbrev pub TimesAreSound : Type 0
 TimesAreSound = (phrase : List ℕ) → MatchResult (time_of (phrase_tokens phrase)) (λ time. MatchOption time (Unit {0}) IsSmallTime) (IsFaultIn (length phrase))
-
--- ---- the plain form
-
--- a phrase of the plain form is read as its date and its clock time, with no written offset and no fraction
-pub record IsReadAsNamed (dialect : Dialect) (phrase : List ℕ) (date : AbsDate) (time : TimeSpec) : Type 0 where
-  pub parts : parts_of dialect (phrase_tokens phrase) ≡ Ok (record { date = Some (Absolute date); time = Some time })
-  pub no_offset : time.offset ≡ None
-  pub no_fraction : time.microsec ≡ 0
-
--- a phrase of the plain form is read as the date and the clock time that it names
-abbrev pub PlainFormsAreRead : Type 0
-PlainFormsAreRead = (dialect : Dialect) (phrase : List ℕ) (date : AbsDate) (time : TimeSpec) → Names dialect phrase date time → IsReadAsNamed dialect phrase date time
