@@ -52,7 +52,7 @@ pub fn days_before_month(year: i32, month: u8) -> u16
     requires low { 1 ≤ month }
     requires high { month ≤ 12 }
     ensures value { result ≡ days_of_months year (month - 1) }
-    ensures few { result < 366 }
+    ensures bound { result < 366 }
 {
     let days = MONTH_STARTS[month as usize - 1];
     if month > 2 && is_leap(year) {
@@ -65,8 +65,8 @@ pub fn days_before_month(year: i32, month: u8) -> u16
 // Of a day of 400 years that begin in the year 1, the whole years before it.
 fn years_in_cycle(days: u32) -> u32
     requires { days < 146097 }
-    ensures begun { 365 * result + result / 4 ≤ days + result / 100 }
-    ensures not_over { days + (result + 1) / 100
+    ensures low { 365 * result + result / 4 ≤ days + result / 100 }
+    ensures high { days + (result + 1) / 100
         < 365 * (result + 1) + (result + 1) / 4 + (result + 1) / 400 }
     ensures bound { result < 400 }
 {
@@ -117,7 +117,7 @@ pub fn year_of_day(day: i64) -> Option<i32>
 /// Years of one kind have the same month lengths and the same weekdays.
 pub fn year_kind(year: i32) -> u8
     ensures value { result ≡ year_kind year }
-    ensures few { result < 14 }
+    ensures bound { result < 14 }
 {
     let weekday = (days_before_year(year) + 3).rem_euclid(7) as u8;
     if is_leap(year) { weekday + 7 } else { weekday }

@@ -64,7 +64,7 @@ impl NaiveDate {
     /// [`MIN`](NaiveDate::MIN) to 95,026,236 for [`MAX`](NaiveDate::MAX).
     pub fn day_number(&self) -> i64
         ensures value { result ≡ self.now }
-        ensures range { IsDay result }
+        ensures bound { IsDay result }
     {
         self.day as i64
     }
@@ -124,34 +124,34 @@ pub trait Datelike: Sized {
 
     /// The date with this year. 2020-02-29 with the year 2016 is 2016-02-29, and with the year 2019 `None`.
     fn with_year(&self, year: i32) -> Option<Self>
-        ensures kept { IfSome result (λ date. keeps self.now date) }
-        ensures changed { (y : ℤ) (m d : ℕ) → IsDateOf (number self.now) y m d
+        ensures same { IfSome result (λ date. keeps self.now date) }
+        ensures value { (y : ℤ) (m d : ℕ) → IsDateOf (number self.now) y m d
             → IfSome result (λ date. IsDateOf (number date) year m d) }
-        ensures exists { settled self.now → (y : ℤ) (m d : ℕ) → IsDateOf (number self.now) y m d
+        ensures some { settled self.now → (y : ℤ) (m d : ℕ) → IsDateOf (number self.now) y m d
             → IsSome result ↔ IsDate year m d × takes self.now (day_of year m d) };
 
     /// The date with this month, from 1 to 12. 2020-01-31 with month 3 is 2020-03-31, and with month 2 or 13 `None`.
     fn with_month(&self, month: u32) -> Option<Self>
-        ensures kept { IfSome result (λ date. keeps self.now date) }
-        ensures changed { (y : ℤ) (m d : ℕ) → IsDateOf (number self.now) y m d
+        ensures same { IfSome result (λ date. keeps self.now date) }
+        ensures value { (y : ℤ) (m d : ℕ) → IsDateOf (number self.now) y m d
             → IfSome result (λ date. IsDateOf (number date) y month d) }
-        ensures exists { settled self.now → (y : ℤ) (m d : ℕ) → IsDateOf (number self.now) y m d
+        ensures some { settled self.now → (y : ℤ) (m d : ℕ) → IsDateOf (number self.now) y m d
             → IsSome result ↔ IsDate y month d × takes self.now (day_of y month d) };
 
     /// The date with this day of the month, from 1. 2020-02-01 with day 29 is 2020-02-29, and with day 30 or 0 `None`.
     fn with_day(&self, day: u32) -> Option<Self>
-        ensures kept { IfSome result (λ date. keeps self.now date) }
-        ensures changed { (y : ℤ) (m d : ℕ) → IsDateOf (number self.now) y m d
+        ensures same { IfSome result (λ date. keeps self.now date) }
+        ensures value { (y : ℤ) (m d : ℕ) → IsDateOf (number self.now) y m d
             → IfSome result (λ date. IsDateOf (number date) y m day) }
-        ensures exists { settled self.now → (y : ℤ) (m d : ℕ) → IsDateOf (number self.now) y m d
+        ensures some { settled self.now → (y : ℤ) (m d : ℕ) → IsDateOf (number self.now) y m d
             → IsSome result ↔ IsDate y m day × takes self.now (day_of y m day) };
 
     /// The date with this day of the year, from 1. 2020-02-29 with day 366 is 2020-12-31; 2019-02-28 has none.
     fn with_ordinal(&self, ordinal: u32) -> Option<Self>
-        ensures kept { IfSome result (λ date. keeps self.now date) }
-        ensures changed { (y : ℤ) (n : ℕ) → IsOrdinalOf (number self.now) y n
+        ensures same { IfSome result (λ date. keeps self.now date) }
+        ensures value { (y : ℤ) (n : ℕ) → IsOrdinalOf (number self.now) y n
             → IfSome result (λ date. IsOrdinalOf (number date) y ordinal) }
-        ensures exists { settled self.now → (y : ℤ) (n : ℕ) → IsOrdinalOf (number self.now) y n
+        ensures some { settled self.now → (y : ℤ) (n : ℕ) → IsOrdinalOf (number self.now) y n
             → IsSome result ↔ IsOrdinal y ordinal × takes self.now (ordinal_day y ordinal) };
 
     /// The month, from 0 for January to 11 for December.
@@ -177,10 +177,10 @@ pub trait Datelike: Sized {
 
     /// The date with this month, from 0 to 11. 2020-01-31 with month 2 is 2020-03-31.
     final fn with_month0(&self, month: u32) -> Option<Self>
-        ensures kept { IfSome result (λ date. keeps self.now date) }
-        ensures changed { (y : ℤ) (m d : ℕ) → IsDateOf (number self.now) y m d
+        ensures same { IfSome result (λ date. keeps self.now date) }
+        ensures value { (y : ℤ) (m d : ℕ) → IsDateOf (number self.now) y m d
             → IfSome result (λ date. IsDateOf (number date) y (month + 1) d) }
-        ensures exists { settled self.now → (y : ℤ) (m d : ℕ) → IsDateOf (number self.now) y m d
+        ensures some { settled self.now → (y : ℤ) (m d : ℕ) → IsDateOf (number self.now) y m d
             → IsSome result ↔ IsDate y (month + 1) d × takes self.now (day_of y (month + 1) d) }
     {
         if month >= 12 {
@@ -192,10 +192,10 @@ pub trait Datelike: Sized {
 
     /// The date with this day of the month, from 0. 2020-02-01 with day 28 is 2020-02-29.
     final fn with_day0(&self, day: u32) -> Option<Self>
-        ensures kept { IfSome result (λ date. keeps self.now date) }
-        ensures changed { (y : ℤ) (m d : ℕ) → IsDateOf (number self.now) y m d
+        ensures same { IfSome result (λ date. keeps self.now date) }
+        ensures value { (y : ℤ) (m d : ℕ) → IsDateOf (number self.now) y m d
             → IfSome result (λ date. IsDateOf (number date) y m (day + 1)) }
-        ensures exists { settled self.now → (y : ℤ) (m d : ℕ) → IsDateOf (number self.now) y m d
+        ensures some { settled self.now → (y : ℤ) (m d : ℕ) → IsDateOf (number self.now) y m d
             → IsSome result ↔ IsDate y m (day + 1) × takes self.now (day_of y m (day + 1)) }
     {
         if day >= 31 {
@@ -207,10 +207,10 @@ pub trait Datelike: Sized {
 
     /// The date with this day of the year, from 0. 2020-02-29 with day 365 is 2020-12-31.
     final fn with_ordinal0(&self, ordinal: u32) -> Option<Self>
-        ensures kept { IfSome result (λ date. keeps self.now date) }
-        ensures changed { (y : ℤ) (n : ℕ) → IsOrdinalOf (number self.now) y n
+        ensures same { IfSome result (λ date. keeps self.now date) }
+        ensures value { (y : ℤ) (n : ℕ) → IsOrdinalOf (number self.now) y n
             → IfSome result (λ date. IsOrdinalOf (number date) y (ordinal + 1)) }
-        ensures exists { settled self.now → (y : ℤ) (n : ℕ) → IsOrdinalOf (number self.now) y n
+        ensures some { settled self.now → (y : ℤ) (n : ℕ) → IsOrdinalOf (number self.now) y n
             → IsSome result
             ↔ IsOrdinal y (ordinal + 1) × takes self.now (ordinal_day y (ordinal + 1)) }
     {
@@ -225,10 +225,10 @@ pub trait Datelike: Sized {
 // The month of the day of a year that has so many days of the year before it.
 fn month_at(year: i32, ordinal: u16) -> u8
     requires { ordinal < days_in_year year }
-    ensures from { 1 ≤ result }
-    ensures to { result ≤ 12 }
-    ensures begun { days_of_months year (result - 1) ≤ ordinal }
-    ensures not_over { ordinal < days_of_months year result }
+    ensures first { 1 ≤ result }
+    ensures last { result ≤ 12 }
+    ensures low { days_of_months year (result - 1) ≤ ordinal }
+    ensures high { ordinal < days_of_months year result }
 {
     // no month has more days than 32, and the months so far have together 32 days fewer at most
     let month = (ordinal / 32) as u8 + 1;
@@ -254,7 +254,7 @@ fn year_in(day: i64) -> i32
 pub(crate) fn ordinal_in(year: i32, day: i64) -> u16
     requires { HoldsDay year day }
     ensures value { day ≡ year_start year +ℤ pos result }
-    ensures few { result < days_in_year year }
+    ensures bound { result < days_in_year year }
 {
     (day - days_before_year(year)) as u16
 }

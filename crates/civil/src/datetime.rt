@@ -50,7 +50,7 @@ impl NaiveDateTime {
     /// The wall second.
     pub fn wall_second(&self) -> i64
         ensures value { result ≡ wall_of self.now }
-        ensures range { IsWallSecond result }
+        ensures bound { IsWallSecond result }
     {
         self.second
     }
@@ -58,7 +58,7 @@ impl NaiveDateTime {
     /// The nanoseconds: below 1,000,000,000, but in a leap second.
     pub fn nanosecond(&self) -> u32
         ensures value { result ≡ nanos_of self.now }
-        ensures range { result < 2000000000 }
+        ensures bound { result < 2000000000 }
     {
         self.nanos
     }

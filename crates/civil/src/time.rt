@@ -91,7 +91,7 @@ impl NaiveTime {
     // The seconds since midnight.
     pub(crate) fn second_of_day(&self) -> u32
         ensures value { result ≡ second_of_day self.now }
-        ensures range { result < 86400 }
+        ensures bound { result < 86400 }
     {
         self.second
     }
@@ -120,7 +120,7 @@ impl NaiveTime {
     /// The nanosecond: below 1,000,000,000, but in a leap second.
     pub fn nanosecond(&self) -> u32
         ensures value { result ≡ nanos_of_time self.now }
-        ensures range { result < 2000000000 }
+        ensures bound { result < 2000000000 }
     {
         self.nanos
     }

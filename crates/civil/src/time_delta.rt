@@ -122,7 +122,7 @@ impl TimeDelta {
     /// The whole seconds, cut towards zero.
     pub fn num_seconds(&self) -> i64
         ensures value { result ≡ int_div self.now (pos 1000000000) }
-        ensures range { IsWithin 9223372036854775 result }
+        ensures bound { IsWithin 9223372036854775 result }
     {
         (self.nanos / 1_000_000_000) as i64
     }
@@ -130,7 +130,7 @@ impl TimeDelta {
     /// The whole days of 24 hours, cut towards zero.
     pub fn num_days(&self) -> i64
         ensures value { result ≡ int_div self.now (pos 86400000000000) }
-        ensures range { IsWithin 106751991167 result }
+        ensures bound { IsWithin 106751991167 result }
     {
         (self.nanos / 86_400_000_000_000) as i64
     }
@@ -139,7 +139,7 @@ impl TimeDelta {
     /// second.
     pub fn subsec_nanos(&self) -> i32
         ensures value { result ≡ self.now -ℤ second_nanos (int_div self.now (pos 1000000000)) }
-        ensures range { IsWithin 999999999 result }
+        ensures bound { IsWithin 999999999 result }
     {
         (self.nanos % 1_000_000_000) as i32
     }

@@ -96,7 +96,7 @@ pub fn times(unit: Interval, count: i32) -> Interval
 
 fn directed_count(direction: Direction) -> i32
     ensures count { result ≡ spec.directed_count direction }
-    ensures small { unsigned_abs result ≤ 1 }
+    ensures bound { unsigned_abs result ≤ 1 }
 {
     match direction {
         Direction::Next => 1,

@@ -115,7 +115,7 @@ pub trait DateTime: Sized + Drop {
     /// A backend that knows this without asking the zone tells it, and the rest need not.
     fn zone_if_inside(&self) -> Option<Self::TimeZone>
         ensures zone { IfSome result (λ tz. tz ≡ Self.zone self.now) }
-        ensures inside { IsSome result
+        ensures some { IsSome result
             → (wall : Wall) × IsWallAt (may_show (Self.zone self.now)) (moment self.now) wall
             × IsTrue (is_within Self.Date.calendar wall.day) }
     {
@@ -128,7 +128,7 @@ pub trait DateTime: Sized + Drop {
         ensures wall { IfOk result (λ parts.
             IsWallAt (may_show (Self.zone self)) (moment self)
             (record { day = Self.Date.number parts.1; time = Self.Time.time parts.2 })) }
-        ensures inside { IfOk result (λ parts.
+        ensures bound { IfOk result (λ parts.
             IsTrue (is_within Self.Date.calendar (Self.Date.number parts.1))) }
         ensures outside { IsErrOf result Refused.OutOfRange →
             (wall : Wall) × IsWallAt (may_show (Self.zone self)) (moment self) wall

@@ -67,7 +67,7 @@ fn month_after(year: i16, month: u8, months: i32) -> (i32, u8)
     ensures year { result.0 ≡ moved_year year month months }
     ensures month { result.1 ≡ moved_month year month months }
     ensures in_year { (1 ≤ result.1) × (result.1 ≤ 12) }
-    ensures near { (negsuc 400000000 ≤ℤ result.0) × (result.0 ≤ℤ pos 400000000) }
+    ensures bound { (negsuc 400000000 ≤ℤ result.0) × (result.0 ≤ℤ pos 400000000) }
 {
     let number = 12 * year as i64 + (month - 1) as i64 + months as i64;
     (

@@ -90,8 +90,8 @@ fn is_blank(byte: u8) -> bool
 }
 
 fn without_blanks(bytes: &[u8]) -> &[u8]
-    ensures rest { result.now ≡ skip bytes.now }
-    ensures shorter { length result.now ≤ length bytes.now }
+    ensures value { result.now ≡ skip bytes.now }
+    ensures bound { length result.now ≤ length bytes.now }
 {
     let mut rest = bytes;
     while let [first, more @ ..] = rest {
@@ -124,7 +124,7 @@ fn front_of(first: u8, after: &[u8]) -> (Front, usize)
     ensures kind { let bytes = first ∷ take result.1 after.now in
         front_kind result.0 bytes ≡ Some (kind_of first bytes) }
     ensures len { result.1 ≡ more first after.now }
-    ensures within { result.1 ≤ length after.now }
+    ensures bound { result.1 ≤ length after.now }
 {
     if first.is_ascii_digit() {
         let (value, len) = number(first, after);
@@ -144,8 +144,8 @@ fn front_of(first: u8, after: &[u8]) -> (Front, usize)
 fn first_token(total: usize, text: &[u8]) -> (Front, &[u8], usize)
     requires { length text.now ≤ total }
     ensures tokens { tokens_left result.0 result.2 total result.1.now ≡ tokens_of total text.now }
-    ensures shorter { length result.1.now ≤ length text.now }
-    ensures within { result.2 ≤ length result.1.now }
+    ensures rest { length result.1.now ≤ length text.now }
+    ensures len { result.2 ≤ length result.1.now }
 {
     let left = without_blanks(text);
     let [first, after @ ..] = left else {
@@ -195,7 +195,7 @@ impl<'a> Lexer<'a> {
     #[inline(always)]
     pub fn peek(&self) -> Option<Token<'a>>
         ensures token { seen_option result ≡ ahead.next_token self.now }
-        ensures end { IfNone result (self.now ≡ []) }
+        ensures none { IfNone result (self.now ≡ []) }
     {
         let kind = match self.front {
             Front::End => return None,
@@ -249,7 +249,7 @@ impl<'a> Lexer<'a> {
 
     // Takes the next token where it is the one that is looked for.
     fn take_if(&mut self, is_there: bool) -> bool
-        ensures same { result ≡ is_there }
+        ensures value { result ≡ is_there }
         ensures left { self.new ≡ if is_there then ahead.after_token self.old else self.old }
     {
         if is_there {

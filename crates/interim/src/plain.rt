@@ -18,7 +18,7 @@ fn two(a: u8, b: u8) -> u32
     requires tens { IsTrue (is_digit a) }
     requires ones { IsTrue (is_digit b) }
     ensures value { result ≡ decimal_from 0 (a ∷ b ∷ []) }
-    ensures small { result < 100 }
+    ensures bound { result < 100 }
 {
     10 * u32::from(a - b'0') + u32::from(b - b'0')
 }

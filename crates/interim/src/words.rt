@@ -95,7 +95,7 @@ pub fn weekday_of(word: &[u8]) -> Option<u8>
 
 fn unit_letter(a: u8) -> Option<Interval>
     ensures unit { result ≡ words.unit_from (a ∷ []) }
-    ensures small { IfSome result (λ u. unsigned_abs (count_of u) ≤ 3600) }
+    ensures bound { IfSome result (λ u. unsigned_abs (count_of u) ≤ 3600) }
 {
     match a {
         b's' => Some(Interval::Seconds(1)),
@@ -110,7 +110,7 @@ fn unit_letter(a: u8) -> Option<Interval>
 
 fn unit_pair(a: u8, b: u8) -> Option<Interval>
     ensures unit { result ≡ words.unit_from (a ∷ b ∷ []) }
-    ensures small { IfSome result (λ u. unsigned_abs (count_of u) ≤ 3600) }
+    ensures bound { IfSome result (λ u. unsigned_abs (count_of u) ≤ 3600) }
 {
     match (a, b) {
         (b's', b'e') => Some(Interval::Seconds(1)),
@@ -128,7 +128,7 @@ fn unit_pair(a: u8, b: u8) -> Option<Interval>
 #[tactic(auto, unfolding(crate::specs::Words::unit_of))]
 pub fn unit_of(word: &[u8]) -> Option<Interval>
     ensures unit { result ≡ words.unit_of word.now }
-    ensures small { IfSome result (λ u. unsigned_abs (count_of u) ≤ 3600) }
+    ensures bound { IfSome result (λ u. unsigned_abs (count_of u) ≤ 3600) }
 {
     if word.len() > LONGEST {
         return None;

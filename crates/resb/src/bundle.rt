@@ -79,8 +79,8 @@ pub fn bundle_words(
     requires most { most ≤ 65535 }
     ensures words { IfOk result (λ words. words.items
         ≡ bundle_of (bare pool.now.keys.items) keys_end root resources.now most) }
-    ensures light { OnOk result (weighed ≤ 8 * (6 + (keys_end + length resources.now))) }
-    ensures refused { IfErr result
+    ensures bound { OnOk result (weighed ≤ 8 * (6 + (keys_end + length resources.now))) }
+    ensures err { IfErr result
         (Refuses (weighed ≤ 8 * (6 + (keys_end + length resources.now)))) }
 {
     let end = keys_end + resources.len();

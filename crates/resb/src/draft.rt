@@ -75,7 +75,7 @@ fn are_known(keys: &[&[u8]], pool: &KeyPool<'_>) -> bool
 /// What the bytes of keys leave of the weight.
 fn without_keys(left: usize, keys: &[&[u8]]) -> Result<usize, ResbError>
     ensures rest { IfOk result (λ rest. rest + sum_of (map length (bare keys.now)) ≡ left) }
-    ensures refused { IfErr result (Refuses (sum_of (map length (bare keys.now)) ≤ left)) }
+    ensures err { IfErr result (Refuses (sum_of (map length (bare keys.now)) ≤ left)) }
 {
     let mut rest = left;
     for key in keys {
@@ -91,8 +91,8 @@ fn without_keys(left: usize, keys: &[&[u8]]) -> Result<usize, ResbError>
 fn push_places(keys: &[&[u8]], pool: &KeyPool<'_>, units: &mut Vec<u16>) -> Result<(), ResbError>
     ensures units { OnOk result
         (units.new.items ≡ units.old.items ++ map (places_in pool.now) (bare keys.now)) }
-    ensures near { OnOk result (most_of (map (places_in pool.now) (bare keys.now)) ≤ 65535) }
-    ensures refused { IfErr result
+    ensures bound { OnOk result (most_of (map (places_in pool.now) (bare keys.now)) ≤ 65535) }
+    ensures err { IfErr result
         (Refuses (most_of (map (places_in pool.now) (bare keys.now)) ≤ 65535)) }
 {
     for key in keys {
@@ -108,8 +108,8 @@ fn push_places(keys: &[&[u8]], pool: &KeyPool<'_>, units: &mut Vec<u16>) -> Resu
 /// The levels of a resource with children of these levels.
 fn level_over(levels: &[u8]) -> Result<u8, ResbError>
     ensures level { IfOk result (λ level. level ≡ 1 + most_of levels.now) }
-    ensures shallow { IfOk result (λ level. level ≤ 8) }
-    ensures refused { IfErr result (Refuses (most_of levels.now < 8)) }
+    ensures bound { IfOk result (λ level. level ≤ 8) }
+    ensures err { IfErr result (Refuses (most_of levels.now < 8)) }
 {
     let mut deepest = 0;
     for level in levels {
@@ -123,9 +123,9 @@ fn level_over(levels: &[u8]) -> Result<u8, ResbError>
 
 /// Where the last `count` of resources begin, of which each has its levels.
 fn first_of_last(count: usize, items: usize, levels: usize) -> Result<usize, ResbError>
-    ensures kept { IfOk result (λ kept. kept + count ≡ items) }
-    ensures levels { IfOk result (λ kept. kept ≤ levels) }
-    ensures refused { IfErr result
+    ensures value { IfOk result (λ kept. kept + count ≡ items) }
+    ensures bound { IfOk result (λ kept. kept ≤ levels) }
+    ensures err { IfErr result
         (λ e. (e ≡ ResbError.NoTree) × (items ≡ levels → items < count)) }
 {
     if count > items || items != levels {
@@ -137,7 +137,7 @@ fn first_of_last(count: usize, items: usize, levels: usize) -> Result<usize, Res
 /// The item of the one resource.
 fn only_item(items: &[u32]) -> Result<u32, ResbError>
     ensures item { IfOk result (λ item. items.now ≡ item ∷ []) }
-    ensures refused { IfErr result (λ e. (e ≡ ResbError.NoTree) × (length items.now ≢ 1)) }
+    ensures err { IfErr result (λ e. (e ≡ ResbError.NoTree) × (length items.now ≢ 1)) }
 {
     if items.len() == 1 {
         return Ok(items[0]);
@@ -148,8 +148,8 @@ fn only_item(items: &[u32]) -> Result<u32, ResbError>
 /// That the words stay within the limit.
 fn check_room(base: usize, words: &Vec<u32>) -> Result<(), ResbError>
     requires { base ≤ most_words }
-    ensures room { OnOk result (base + length words.now.items ≤ most_words) }
-    ensures refused { IfErr result (Refuses (base + length words.now.items ≤ most_words)) }
+    ensures bound { OnOk result (base + length words.now.items ≤ most_words) }
+    ensures err { IfErr result (Refuses (base + length words.now.items ≤ most_words)) }
 {
     if words.len() > MOST_WORDS - base {
         return Err(ResbError::TooLarge);
@@ -220,7 +220,7 @@ impl<'k> Draft<'k> {
         requires near { most_of (places_of (bare pool.keys.items) 32) ≤ 65535 }
         requires good { all_keys (bare pool.keys.items) ≡ true }
         ensures holds { IfOk result (λ draft. Holds draft (bare pool.entry.keys.items) []) }
-        ensures refused { IfErr result
+        ensures err { IfErr result
             (Refuses (words_end (bare pool.entry.keys.items) ≤ most_words)) }
     {
         let base = pool.words_end();
@@ -242,7 +242,7 @@ impl<'k> Draft<'k> {
         ensures room { OnOk result
             (self.now.base + length self.now.laying.words.items ≤ most_words) }
         ensures rest { IfOk result (λ rest. rest + (1 + parts) ≡ self.now.left) }
-        ensures refused { IfErr result (Refuses
+        ensures err { IfErr result (Refuses
             ((self.now.base + length self.now.laying.words.items ≤ most_words)
             × (1 + parts ≤ self.now.left))) }
     {
@@ -358,11 +358,11 @@ impl<'k> Draft<'k> {
             → IfOk result (λ words. words.items ≡ written tree) }
         ensures denoted { (tree : Resource) → Holds self.entry (key_pool tree) (tree ∷ [])
             → IfOk result (λ words. tree_of words.items ≡ Some tree) }
-        ensures light { (tree : Resource) → Holds self.entry (key_pool tree) (tree ∷ [])
+        ensures bound { (tree : Resource) → Holds self.entry (key_pool tree) (tree ∷ [])
             → OnOk result (weight tree ≤ 8 * length (written tree)) }
         ensures one { (keys : List (List ℕ)) (row : List Resource) → Holds self.entry keys row
             → OnOk result (length row ≡ 1) }
-        ensures refused { (keys : List (List ℕ)) (row : List Resource) → Holds self.entry keys row
+        ensures err { (keys : List (List ℕ)) (row : List Resource) → Holds self.entry keys row
             → IfErr result (Unwritten keys row) }
     {
         let root = only_item(self.laying.items.as_slice())?;

@@ -36,10 +36,10 @@ pub fn lay_text(units: &[u16], base: usize, out: &mut Vec<u32>) -> Result<u32, R
         ++ (text_laid units.now no_places (base + length out.old.items)).0) }
     ensures item { IfOk result
         (λ v. v ≡ (text_laid units.now no_places (base + length out.old.items)).1) }
-    ensures fits { OnOk result
+    ensures bound { OnOk result
         (base + length out.old.items
         + length (text_laid units.now no_places (base + length out.old.items)).0 ≤ most_words) }
-    ensures refused { IfErr result
+    ensures err { IfErr result
         (Refuses (base + length out.old.items
         + length (text_laid units.now no_places (base + length out.old.items)).0 ≤ most_words)) }
 {
@@ -64,10 +64,10 @@ pub fn lay_bytes(bytes: &[u8], base: usize, out: &mut Vec<u32>) -> Result<u32, R
         ++ (bytes_laid bytes.now no_places (base + length out.old.items)).0) }
     ensures item { IfOk result
         (λ v. v ≡ (bytes_laid bytes.now no_places (base + length out.old.items)).1) }
-    ensures fits { OnOk result
+    ensures bound { OnOk result
         (base + length out.old.items
         + length (bytes_laid bytes.now no_places (base + length out.old.items)).0 ≤ most_words) }
-    ensures refused { IfErr result
+    ensures err { IfErr result
         (Refuses (base + length out.old.items
         + length (bytes_laid bytes.now no_places (base + length out.old.items)).0 ≤ most_words)) }
 {
@@ -92,11 +92,11 @@ pub fn lay_integers(values: &[u32], base: usize, out: &mut Vec<u32>) -> Result<u
         ++ (integers_laid values.now no_places (base + length out.old.items)).0) }
     ensures item { IfOk result
         (λ v. v ≡ (integers_laid values.now no_places (base + length out.old.items)).1) }
-    ensures fits { OnOk result
+    ensures bound { OnOk result
         (base + length out.old.items
         + length (integers_laid values.now no_places (base + length out.old.items)).0
         ≤ most_words) }
-    ensures refused { IfErr result
+    ensures err { IfErr result
         (Refuses (base + length out.old.items
         + length (integers_laid values.now no_places (base + length out.old.items)).0
         ≤ most_words)) }
@@ -117,8 +117,8 @@ pub fn lay_integers(values: &[u32], base: usize, out: &mut Vec<u32>) -> Result<u
 /// The item of an integer, which has no words.
 pub fn integer_item(value: u32) -> Result<u32, ResbError>
     ensures item { IfOk result (λ v. v ≡ 1879048192 + value) }
-    ensures small { OnOk result (value < 268435456) }
-    ensures refused { IfErr result (Refuses (value < 268435456)) }
+    ensures bound { OnOk result (value < 268435456) }
+    ensures err { IfErr result (Refuses (value < 268435456)) }
 {
     if value >= 268_435_456 {
         return Err(ResbError::TooLarge);

@@ -60,7 +60,7 @@ fn same_key(body: BodyWords<'_>, one: usize, other: usize) -> bool
 fn key_len(body: BodyWords<'_>, place: usize) -> usize
     requires { IsKey (told body) place }
     ensures value { let b = told body.entry in run (byte_in b.words) place result ≡ key_there b place }
-    ensures within { place + result ≤ 4 * body.entry.keys_end }
+    ensures bound { place + result ≤ 4 * body.entry.keys_end }
 {
     let mut at = place;
     while byte_at(body.words, at) != 0 {

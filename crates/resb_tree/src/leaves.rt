@@ -56,7 +56,7 @@ fn zero_unit(body: &BodyWords<'_>, v: usize) -> Option<usize>
 /// So many units from a place on, where they lie inside the 16-bit area.
 fn span_inside(body: BodyWords<'_>, from: usize, count: usize) -> Option<(usize, usize)>
     ensures value { result ≡ span_inside (told body.entry) from count }
-    ensures lies { IfSome result (λ span. span.0 + span.1 ≤ area_len (told body.entry)) }
+    ensures bound { IfSome result (λ span. span.0 + span.1 ≤ area_len (told body.entry)) }
 {
     let len = area_len(body);
     if from > len || count > len - from {
@@ -71,7 +71,7 @@ fn told_span(body: BodyWords<'_>, v: usize, first: usize) -> Option<(usize, usiz
     requires low { 0xDC00 ≤ first }
     requires high { first ≤ 0xDFFF }
     ensures value { result ≡ told_span (told body.entry) v first }
-    ensures lies { IfSome result (λ span. span.0 + span.1 ≤ area_len (told body.entry)) }
+    ensures bound { IfSome result (λ span. span.0 + span.1 ≤ area_len (told body.entry)) }
 {
     if first < 0xDFEF {
         return span_inside(body, v + 1, first % 1024);
@@ -94,7 +94,7 @@ fn told_span(body: BodyWords<'_>, v: usize, first: usize) -> Option<(usize, usiz
 #[tactic(auto, unfolding(crate::specs::Reading::short_span))]
 pub fn short_span(body: &BodyWords<'_>, v: usize) -> Option<(usize, usize)>
     ensures value { result ≡ short_span (told body.now) v }
-    ensures lies { IfSome result (λ span. span.0 + span.1 ≤ area_len (told body.now)) }
+    ensures bound { IfSome result (λ span. span.0 + span.1 ≤ area_len (told body.now)) }
 {
     if v >= area_len(*body) {
         return None;

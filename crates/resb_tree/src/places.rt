@@ -89,7 +89,7 @@ pub fn no_items(form: ArrayForm, v: usize) -> bool
 /// How many items an array has.
 pub fn array_count(body: BodyWords<'_>, form: ArrayForm, v: usize) -> Result<usize, ResbError>
     ensures value { Gives (λ x. x) result (array_count form (told body.entry) v) }
-    ensures lies { IfOk result (λ count. v + 1 + count ≤ items_end form (told body.entry)) }
+    ensures bound { IfOk result (λ count. v + 1 + count ≤ items_end form (told body.entry)) }
 {
     match form {
         ArrayForm::Long => count_at(body, v, 1),
@@ -121,7 +121,7 @@ pub fn no_entries(form: TableForm, v: usize) -> bool
 /// The count of a table whose key places take 16 bits.
 fn narrow_count(body: BodyWords<'_>, v: usize) -> Result<usize, ResbError>
     ensures value { Gives (λ x. x) result (table_count table.Narrow (told body.entry) v) }
-    ensures lies { IfOk result (λ count. EntriesLie table.Narrow (told body.entry) v count) }
+    ensures bound { IfOk result (λ count. EntriesLie table.Narrow (told body.entry) v count) }
 {
     if v >= body.end {
         return Err(ResbError::NoTree);
@@ -136,7 +136,7 @@ fn narrow_count(body: BodyWords<'_>, v: usize) -> Result<usize, ResbError>
 /// The count of a table whose key places take a word.
 fn wide_count(body: BodyWords<'_>, v: usize) -> Result<usize, ResbError>
     ensures value { Gives (λ x. x) result (table_count table.Wide (told body.entry) v) }
-    ensures lies { IfOk result (λ count. EntriesLie table.Wide (told body.entry) v count) }
+    ensures bound { IfOk result (λ count. EntriesLie table.Wide (told body.entry) v count) }
 {
     if v >= body.end {
         return Err(ResbError::NoTree);
@@ -151,7 +151,7 @@ fn wide_count(body: BodyWords<'_>, v: usize) -> Result<usize, ResbError>
 /// How many entries a table has.
 pub fn table_count(body: BodyWords<'_>, form: TableForm, v: usize) -> Result<usize, ResbError>
     ensures value { Gives (λ x. x) result (table_count form (told body.entry) v) }
-    ensures lies { IfOk result (λ count. EntriesLie form (told body.entry) v count) }
+    ensures bound { IfOk result (λ count. EntriesLie form (told body.entry) v count) }
 {
     match form {
         TableForm::Narrow => narrow_count(body, v),

@@ -95,13 +95,13 @@ fn serve_piece<A: Answer, O: Sink>(
     replies: &mut String,
     output: &mut O,
 ) -> Result<(), ServeError>
-    ensures all { OnOk result (Gains (LeadsOn (A.reply engine.now) start.old start.new piece.now)
+    ensures ok { OnOk result (Gains (LeadsOn (A.reply engine.now) start.old start.new piece.now)
         (O.written output.old) (O.written output.new)) }
-    ensures part { OnErr result (Gains (LeadsPartly (A.reply engine.now) start.old piece.now)
+    ensures err { OnErr result (Gains (LeadsPartly (A.reply engine.now) start.old piece.now)
         (O.written output.old) (O.written output.new)) }
-    ensures fault { IsErrOf result ServeError.Fault
+    ensures cause { IsErrOf result ServeError.Fault
         → Rose (O.faults output.old) (O.faults output.new) }
-    ensures later { O.faults output.old ≤ O.faults output.new }
+    ensures faults { O.faults output.old ≤ O.faults output.new }
 {
     replies.clear();
     reply_to_piece(alloc, engine, start, piece, replies)?;
@@ -116,13 +116,13 @@ fn serve_last<A: Answer, O: Sink>(
     start: &LineStart,
     output: &mut O,
 ) -> Result<(), ServeError>
-    ensures all { OnOk result (Gains (LeadsToEnd (A.reply engine.now) start.now)
+    ensures ok { OnOk result (Gains (LeadsToEnd (A.reply engine.now) start.now)
         (O.written output.old) (O.written output.new)) }
-    ensures part { OnErr result (Gains (LeadsPartlyToEnd (A.reply engine.now) start.now)
+    ensures err { OnErr result (Gains (LeadsPartlyToEnd (A.reply engine.now) start.now)
         (O.written output.old) (O.written output.new)) }
-    ensures fault { IsErrOf result ServeError.Fault
+    ensures cause { IsErrOf result ServeError.Fault
         → Rose (O.faults output.old) (O.faults output.new) }
-    ensures later { O.faults output.old ≤ O.faults output.new }
+    ensures faults { O.faults output.old ≤ O.faults output.new }
 {
     if start.is_empty() {
         return Ok(());

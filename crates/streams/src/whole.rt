@@ -33,12 +33,12 @@ pub fn read_all<S: Source>(
     ensures whole { IfOk result
         (λ bytes. Consumes (S.left source.old) (S.left source.new) bytes.items) }
     ensures end { OnOk result (IsAtEnd (S.left source.new)) }
-    ensures fits { IfOk result (λ bytes. vec_len bytes ≤ limit) }
-    ensures fault { IsErrOf result ReadError.Fault
+    ensures bound { IfOk result (λ bytes. vec_len bytes ≤ limit) }
+    ensures cause { IsErrOf result ReadError.Fault
         → Rose (S.faults source.old) (S.faults source.new) }
     ensures too_long { IsErrOf result ReadError.TooLong → TookMore (S.left source.old) limit }
     ensures taken { TookAtMost (S.left source.old) (S.left source.new) (limit + 1) }
-    ensures later { S.faults source.old ≤ S.faults source.new }
+    ensures faults { S.faults source.old ≤ S.faults source.new }
 {
     let mut bytes = Vec::new(alloc);
     let mut piece = [0u8; PIECE];
@@ -63,10 +63,10 @@ pub fn read_all<S: Source>(
 ///
 /// It ends at the first write that fails; then a front part of the bytes was written.
 pub fn write_all<O: Sink>(output: &mut O, bytes: &[u8]) -> Result<(), Failed>
-    ensures all { OnOk result (Appends (O.written output.old) (O.written output.new) bytes.now) }
-    ensures part { GainsPart (O.written output.old) (O.written output.new) bytes.now }
-    ensures later { O.faults output.old ≤ O.faults output.new }
-    ensures failed { OnErr result (Rose (O.faults output.old) (O.faults output.new)) }
+    ensures ok { OnOk result (Appends (O.written output.old) (O.written output.new) bytes.now) }
+    ensures written { GainsPart (O.written output.old) (O.written output.new) bytes.now }
+    ensures faults { O.faults output.old ≤ O.faults output.new }
+    ensures err { OnErr result (Rose (O.faults output.old) (O.faults output.new)) }
 {
     let mut place = 0;
     'writing: while place < bytes.len() {

@@ -34,7 +34,7 @@ fn words(alloc: Global, bytes: &[u8]) -> Result<Vec<u32>, AllocError>
 pub fn zones_of_bytes(alloc: Global, bytes: Vec<u8>) -> Result<ZoneInfo64, BundleError>
     requires { vec_len bytes ≤ 4194304 }
     ensures zones { IfOk result (λ zones. bundle_zones bytes.items ≡ Some zones) }
-    ensures refused { IsErrOf result BundleError.Bundle → bundle_zones bytes.items ≡ None }
+    ensures bundle { IsErrOf result BundleError.Bundle → bundle_zones bytes.items ≡ None }
 {
     if bytes.len() % 4 != 0 {
         return Err(BundleError::Bundle);

@@ -58,8 +58,8 @@ fn cut(text: &str) -> Option<(&str, &str)>
 fn number(bytes: &[u8]) -> Option<(u64, usize)>
     ensures value { MatchOption result (number_cut bytes.now ≡ None)
         (λ read. number_cut bytes.now ≡ Some (read.0, read.1)) }
-    ensures small { IfSome result (λ read. read.0 < 10 ^ 12) }
-    ensures within { IfSome result (λ read. read.1 < length bytes.now) }
+    ensures bound { IfSome result (λ read. read.0 < 10 ^ 12) }
+    ensures len { IfSome result (λ read. read.1 < length bytes.now) }
     ensures tab { IfSome result (λ read. slice_index bytes.now read.1 ≡ 9) }
 {
     let most = bytes.len().min(12);

@@ -25,7 +25,7 @@ fn verdict_by<L: Ledger>(zone: &Zone<'_>, blank: Blank) -> Result<(), ZoneFault>
     requires parts { blank.parts ≡ L.parts }
     requires some { 0 < L.parts }
     ensures lawful { IfSome (plain_zone zone.now) (λ z. IsOk result ↔ IsLawful z) }
-    ensures fault { IfSome (plain_zone zone.now) (λ z. IfErr result (IsLeastBroken z)) }
+    ensures err { IfSome (plain_zone zone.now) (λ z. IfErr result (IsLeastBroken z)) }
 {
     let mut steps = Steps::<L>::new(blank);
     zone.check(&mut steps)
@@ -34,7 +34,7 @@ fn verdict_by<L: Ledger>(zone: &Zone<'_>, blank: Blank) -> Result<(), ZoneFault>
 // Whether the zone is lawful, or the least law that it breaks.
 fn verdict(zone: &Zone<'_>) -> Result<(), ZoneFault>
     ensures lawful { IfSome (plain_zone zone.now) (λ z. IsOk result ↔ IsLawful z) }
-    ensures fault { IfSome (plain_zone zone.now) (λ z. IfErr result (IsLeastBroken z)) }
+    ensures err { IfSome (plain_zone zone.now) (λ z. IfErr result (IsLeastBroken z)) }
 {
     verdict_by::<Brand>(zone, Blank::new(1))
 }
@@ -55,9 +55,9 @@ fn find_in(zone: Result<Zone<'_>, ZoneFault>, fields: &Fields<'_>) -> Result<Mom
     ensures found { (zones : List NamedZone)
         → IsChecked zones (fields_view fields.now).zone (Some zone.entry)
         → Finds zones (fields_view fields.now) result }
-    ensures inside { IfOk result IsInCalendar }
+    ensures bound { IfOk result IsInCalendar }
     ensures base { IfOk result (λ m. IsBase fields.now.base) }
-    ensures refused { IfErr result (λ e. IsSome (refusal e)) }
+    ensures err { IfErr result (λ e. IsSome (refusal e)) }
 {
     laws_below();
     let zone = match zone {
@@ -81,9 +81,9 @@ pub fn find(
     ensures found { (zones : List NamedZone)
         → IsChecked zones (fields_view fields.now).zone zone.entry
         → Finds zones (fields_view fields.now) result }
-    ensures inside { IfOk result IsInCalendar }
+    ensures bound { IfOk result IsInCalendar }
     ensures base { IfOk result (λ m. IsBase fields.now.base) }
-    ensures refused { IfErr result (λ e. IsSome (refusal e)) }
+    ensures err { IfErr result (λ e. IsSome (refusal e)) }
 {
     match zone {
         Some(zone) => find_in(zone, fields),

@@ -57,7 +57,7 @@ fn side(ahead: bool) -> u8
 #[inline(always)]
 fn write_front(moment: &Moment, ahead: bool, buffer: &mut [u8]) -> usize
     requires { length buffer.old ≡ 64 }
-    ensures within { result ≤ 64 }
+    ensures bound { result ≤ 64 }
     ensures written { drop result buffer.new
         ≡ front_text moment.now.second moment.now.nanos moment.now.offset ahead }
     ensures ascii { IsAscii (drop result buffer.new) }

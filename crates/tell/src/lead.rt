@@ -24,8 +24,8 @@ fn carried(second: i64, nanos: u32) -> (i64, u32)
     ensures value { pos 1000000000 *ℤ result.0 +ℤ pos result.1
         ≡ pos 1000000000 *ℤ second +ℤ pos nanos }
     ensures fraction { result.1 < 1000000000 }
-    ensures from { second ≤ℤ result.0 }
-    ensures to { result.0 ≤ℤ (second +ℤ pos 1) }
+    ensures low { second ≤ℤ result.0 }
+    ensures high { result.0 ≤ℤ (second +ℤ pos 1) }
 {
     if nanos < NANOS {
         (second, nanos)

@@ -67,7 +67,7 @@ impl<Tz: Civil> Located<Tz> {
     /// The seconds since 1970-01-01 00:00:00 UTC.
     pub fn second(&self) -> i64
         ensures value { result ≡ second_in self.now }
-        ensures range { IsWallSecond result }
+        ensures bound { IsWallSecond result }
     {
         self.utc.wall_second()
     }
@@ -75,7 +75,7 @@ impl<Tz: Civil> Located<Tz> {
     /// The nanoseconds since that second.
     pub fn nanos(&self) -> u32
         ensures value { result ≡ nanos_in self.now }
-        ensures range { result < 2000000000 }
+        ensures bound { result < 2000000000 }
     {
         self.utc.nanosecond()
     }
@@ -84,7 +84,7 @@ impl<Tz: Civil> Located<Tz> {
     pub fn seconds_east(&self) -> i32
         ensures value { Tz.sound (zone_in self.now)
             → result ≡ Tz.off (zone_in self.now) (second_in self.now) }
-        ensures range { IsOffset result }
+        ensures bound { IsOffset result }
     {
         match self.east {
             Some(seconds) => seconds,

@@ -60,7 +60,7 @@ fn resolved<Tz: Civil>(zone: &Tz, base: i64, phrase: &str, dialect: Dialect) -> 
         → AnswersPhrase false moment_view (parts_of dialect (phrase_tokens phrase.now))
         (MeansIn (Tz.off zone.now) civil_days civil_seconds (base, 0) dialect) result }
     ensures offset { Tz.sound zone.now → IfOk result (λ m. m.offset ≡ Tz.off zone.now m.second) }
-    ensures inside { IfOk result IsInCalendar }
+    ensures bound { IfOk result IsInCalendar }
 {
     sound_zones_mean::<Tz>();
     match parse_date_string(phrase, base_in(zone, base), dialect) {
@@ -83,7 +83,7 @@ pub fn moment_of<'a>(
     requires { IsBase base }
     ensures said { IfSome (plain_zone zone.entry) (λ z. IsLawful z
         → ResolvesTo z dialect base phrase.now result) }
-    ensures inside { IfOk result IsInCalendar }
+    ensures bound { IfOk result IsInCalendar }
 {
     offsets_are_small();
     resolved(&zone, base, phrase, dialect)

@@ -120,7 +120,7 @@ pub fn at<B: Source, I: Source, O: Sink>(
     ensures ends { EndsBy
         (planned (Some (command.At language)) (B.left bundle.old) (I.left input.old)) result }
     ensures no_usage { result ≡ Status.Usage → ⊥ }
-    ensures refused { result ≡ Status.Bundle
+    ensures bundle { result ≡ Status.Bundle
         → RefusesBundle (Some (command.At language)) (B.left bundle.old) }
     ensures accepted { result ≡ Status.TooLong
         → AcceptsBundle (Some (command.At language)) (B.left bundle.old) }

@@ -64,7 +64,7 @@ impl<L: Language> Formatter<L> {
         requires { 1 ≤ x }
         ensures same { result.ghost_name ≡ self.entry.ghost_name }
         ensures language { language_of result.now ≡ language_of self.old }
-        ensures set { settings_of result.now ≡ record (settings_of self.old) { items = x } }
+        ensures settings { settings_of result.now ≡ record (settings_of self.old) { items = x } }
     {
         self.num_items = x;
         self
@@ -74,7 +74,7 @@ impl<L: Language> Formatter<L> {
     pub fn max_unit(&mut self, x: TimeUnit) -> &mut Self
         ensures same { result.ghost_name ≡ self.entry.ghost_name }
         ensures language { language_of result.now ≡ language_of self.old }
-        ensures set { settings_of result.now ≡ record (settings_of self.old) { max_unit = x } }
+        ensures settings { settings_of result.now ≡ record (settings_of self.old) { max_unit = x } }
     {
         self.max_unit = x;
         self
@@ -84,7 +84,7 @@ impl<L: Language> Formatter<L> {
     pub fn min_unit(&mut self, x: TimeUnit) -> &mut Self
         ensures same { result.ghost_name ≡ self.entry.ghost_name }
         ensures language { language_of result.now ≡ language_of self.old }
-        ensures set { settings_of result.now ≡ record (settings_of self.old) { min_unit = x } }
+        ensures settings { settings_of result.now ≡ record (settings_of self.old) { min_unit = x } }
     {
         self.min_unit = x;
         self
@@ -94,7 +94,7 @@ impl<L: Language> Formatter<L> {
     pub fn too_low(&mut self, x: &'static str) -> &mut Self
         ensures same { result.ghost_name ≡ self.entry.ghost_name }
         ensures language { language_of result.now ≡ language_of self.old }
-        ensures set { settings_of result.now
+        ensures settings { settings_of result.now
             ≡ record (settings_of self.old) { low = Some x.entry.now } }
     {
         self.too_low = Some(x);
@@ -105,7 +105,7 @@ impl<L: Language> Formatter<L> {
     pub fn too_high(&mut self, x: &'static str) -> &mut Self
         ensures same { result.ghost_name ≡ self.entry.ghost_name }
         ensures language { language_of result.now ≡ language_of self.old }
-        ensures set { settings_of result.now
+        ensures settings { settings_of result.now
             ≡ record (settings_of self.old) { high = Some x.entry.now } }
     {
         self.too_high = Some(x);
@@ -116,7 +116,7 @@ impl<L: Language> Formatter<L> {
     pub fn max_duration(&mut self, x: Duration) -> &mut Self
         ensures same { result.ghost_name ≡ self.entry.ghost_name }
         ensures language { language_of result.now ≡ language_of self.old }
-        ensures set { settings_of result.now
+        ensures settings { settings_of result.now
             ≡ record (settings_of self.old) { max_duration = as_nanos x } }
     {
         self.max_duration = x;
@@ -127,7 +127,7 @@ impl<L: Language> Formatter<L> {
     pub fn ago(&mut self, x: &'static str) -> &mut Self
         ensures same { result.ghost_name ≡ self.entry.ghost_name }
         ensures language { language_of result.now ≡ language_of self.old }
-        ensures set { settings_of result.now
+        ensures settings { settings_of result.now
             ≡ record (settings_of self.old) { past = Some x.entry.now } }
     {
         self.ago = Some(x);
@@ -139,7 +139,7 @@ impl<L: Language> Formatter<L> {
         ensures words { IfOk result (λ text.
             IsWords (L.speech (language_of self.now)) (settings_of self.now)
             (as_nanos d) (string_bytes text)) }
-        ensures within { IfOk result (λ text.
+        ensures bound { IfOk result (λ text.
             TellsWithin (L.speech (language_of self.now)) (settings_of self.now)
             (as_nanos d) (string_bytes text)) }
     {

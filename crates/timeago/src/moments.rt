@@ -30,7 +30,7 @@ impl<L: Language> Formatter<L> {
         ensures words { nanos_since_epoch from ≤ℤ nanos_since_epoch to → IfOk result (λ text.
             IsWords (L.speech (language_of self.now)) (settings_of self.now)
             (unsigned_abs (nanos_since_epoch to -ℤ nanos_since_epoch from)) (string_bytes text)) }
-        ensures within { nanos_since_epoch from ≤ℤ nanos_since_epoch to → IfOk result (λ text.
+        ensures bound { nanos_since_epoch from ≤ℤ nanos_since_epoch to → IfOk result (λ text.
             TellsWithin (L.speech (language_of self.now)) (settings_of self.now)
             (unsigned_abs (nanos_since_epoch to -ℤ nanos_since_epoch from)) (string_bytes text)) }
     {

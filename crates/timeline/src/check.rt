@@ -346,7 +346,7 @@ fn table_fault<L: Ledger>(
     limit: Option<i64>,
     steps: &mut Steps<L>,
 ) -> Result<(), ZoneFault>
-    ensures told { TellsLeast
+    ensures value { TellsLeast
         (TableKeeps zone.now.initial zone.now.table zone.now.early zone.now.late limit) result }
     ensures ticks { steps.new ≡ steps.old + length zone.now.table }
 {
@@ -388,7 +388,7 @@ fn year_fault<L: Ledger>(
 ) -> Result<(), ZoneFault>
     requires kind { kind < 14 }
     requires small { IsTrue small → IsSmall rule.now.raw × IsSmall (rule.now.raw +ℤ rule.now.extra) }
-    ensures told { (r : PlainRule) → rule.now ≡ kept_rule r
+    ensures value { (r : PlainRule) → rule.now ≡ kept_rule r
         → TellsLeast (YearKeeps r (example_year kind)) result }
     ensures ticks { steps.new ≡ steps.old + 1 }
 {
@@ -420,7 +420,7 @@ fn offset_from(entry: &Transition) -> Offset
 /// The least law that a year of a rule breaks. All years of a kind break the same ones, so it looks at one of each.
 /// Takes 14 steps.
 fn years_fault<L: Ledger>(rule: &YearRule, steps: &mut Steps<L>) -> Result<(), ZoneFault>
-    ensures told { (r : PlainRule) → rule.now ≡ kept_rule r → TellsLeast (YearsKeep r) result }
+    ensures value { (r : PlainRule) → rule.now ≡ kept_rule r → TellsLeast (YearsKeep r) result }
     ensures ticks { steps.new ≡ steps.old + 14 }
 {
     let (raw, sum) = rule.offsets();
@@ -451,7 +451,7 @@ fn rule_fault<L: Ledger>(
     last: Offset,
     steps: &mut Steps<L>,
 ) -> Result<(), ZoneFault>
-    ensures told { (r : PlainRule) → rule.now ≡ kept_rule r → TellsLeast (RuleKeeps r last) result }
+    ensures value { (r : PlainRule) → rule.now ≡ kept_rule r → TellsLeast (RuleKeeps r last) result }
     ensures ticks { steps.new ≤ steps.old + 1 }
 {
     let (raw, sum) = rule.offsets();
@@ -478,7 +478,7 @@ fn initial_fault(initial: Offset) -> Result<(), ZoneFault>
 
 /// The least law that a zone breaks. Takes a step for each entry of the table, and 15 more at most.
 pub fn least_fault<L: Ledger>(zone: &ZoneData, steps: &mut Steps<L>) -> Result<(), ZoneFault>
-    ensures told { TellsLeast (Keeps zone.now) result }
+    ensures value { TellsLeast (Keeps zone.now) result }
     ensures ticks { steps.new ≤ steps.old + (15 + length zone.now.table) }
 {
     let least = initial_fault(zone.initial());

@@ -286,7 +286,7 @@ impl ZoneData {
     /// through the table once, by a step for each entry.
     pub fn check<L: Ledger>(&self, steps: &mut Steps<L>) -> Result<(), ZoneFault>
         ensures lawful { IsOk result ↔ IsLawful self.now }
-        ensures fault { IfErr result (IsLeastBroken self.now) }
+        ensures err { IfErr result (IsLeastBroken self.now) }
         ensures ticks { steps.new ≤ steps.old + (2000 + length self.now.table) }
     {
         least_fault(self, steps)

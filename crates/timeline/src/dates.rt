@@ -115,7 +115,7 @@ impl Model for ZoneRule {
 fn month_place(month: u32, kind: u8) -> u32
     requires { month < 12 }
     ensures value { (y : ℤ) → year_kind y ≡ kind → result ≡ days_of_months y month }
-    ensures few { result < 366 }
+    ensures bound { result < 366 }
 {
     let month = month as u8 + 1;
     if kind < 7 {
@@ -130,7 +130,7 @@ fn weekday_at(place: u32, kind: u8) -> u32
     requires { place < 1000 }
     ensures value { (y : ℤ) → year_kind y ≡ kind
         → weekday_of (year_start y +ℤ pos place) ≡ pos result }
-    ensures few { result < 7 }
+    ensures bound { result < 7 }
 {
     (kind as u32 % 7 + place) % 7
 }
@@ -141,7 +141,7 @@ fn first_from(weekday: u32, from: u32, kind: u8) -> u32
     requires from { from < 1000 }
     ensures value { (y : ℤ) → year_kind y ≡ kind
         → first_on 6 (pos weekday) (year_start y +ℤ pos from) ≡ year_start y +ℤ pos result }
-    ensures near { result ≤ from + 6 }
+    ensures bound { result ≤ from + 6 }
 {
     from + (weekday + 7 - weekday_at(from, kind)) % 7
 }
@@ -162,7 +162,7 @@ fn last_to(weekday: u32, to: u32, kind: u8) -> i32
 fn from_monday(weekday: u32) -> u32
     ensures counted { pos result ≡ code_weekday (pos (suc weekday)) }
     ensures beside { pos result ≡ code_weekday (negsuc weekday) }
-    ensures few { result < 7 }
+    ensures bound { result < 7 }
 {
     (weekday % 7 + 6) % 7
 }

@@ -37,7 +37,7 @@ pub enum YearEntries {
 
 /// How many entries of the table are not after a second, where the table rises.
 pub fn table_place<L: Ledger>(zone: &ZoneData, second: i64, steps: &mut Steps<L>) -> usize
-    ensures within { result ≤ length zone.now.table }
+    ensures bound { result ≤ length zone.now.table }
     ensures place { KeepsOrder zone.now → result ≡ table_place zone.now second }
     ensures ticks { 2 ^ (steps.new - steps.old) ≤ 2 * length zone.now.table + 1 }
 {

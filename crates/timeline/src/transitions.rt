@@ -221,8 +221,8 @@ fn is_up_to(exact: bool, second: i64, since: i64) -> bool
 /// How many entries of the table lie before a second, with the number of those that are not after it.
 fn exact_place<L: Ledger>(zone: &ZoneData, second: i64, place: usize, steps: &mut Steps<L>) -> usize
     requires { place ≤ length zone.now.table }
-    ensures within { result ≤ length zone.now.table }
-    ensures cut { KeepsOrder zone.now → IsTableCut zone.now false second place
+    ensures bound { result ≤ length zone.now.table }
+    ensures value { KeepsOrder zone.now → IsTableCut zone.now false second place
         → IsTableCut zone.now true second result }
 {
     if place == 0 {
@@ -236,8 +236,8 @@ fn exact_place<L: Ledger>(zone: &ZoneData, second: i64, place: usize, steps: &mu
 
 /// How many entries of the table lie before a second, or not after it where that is not taken exactly.
 fn table_cut<L: Ledger>(zone: &ZoneData, second: i64, exact: bool, steps: &mut Steps<L>) -> usize
-    ensures within { result ≤ length zone.now.table }
-    ensures cut { KeepsOrder zone.now → IsTableCut zone.now exact second result }
+    ensures bound { result ≤ length zone.now.table }
+    ensures value { KeepsOrder zone.now → IsTableCut zone.now exact second result }
 {
     let place = table_place(zone, second, steps);
     if exact {

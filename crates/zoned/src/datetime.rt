@@ -73,7 +73,7 @@ impl<Tz: TimeZone> DateTime<Tz> {
     /// The seconds since 1970-01-01 00:00:00 UTC.
     pub fn timestamp(&self) -> i64
         ensures value { result ≡ second_of self.now }
-        ensures range { IsWallSecond result }
+        ensures bound { IsWallSecond result }
     {
         self.datetime.wall_second()
     }
@@ -81,7 +81,7 @@ impl<Tz: TimeZone> DateTime<Tz> {
     /// The nanoseconds since that second: below 1,000,000,000, but in a leap second.
     pub fn timestamp_subsec_nanos(&self) -> u32
         ensures value { result ≡ fraction_of self.now }
-        ensures range { result < 2000000000 }
+        ensures bound { result < 2000000000 }
     {
         self.datetime.nanosecond()
     }

@@ -48,7 +48,7 @@ impl FixedOffset {
     /// The wall time less UTC, in seconds.
     pub fn local_minus_utc(&self) -> i32
         ensures value { result ≡ seconds_east self.now }
-        ensures range { IsOffset result }
+        ensures bound { IsOffset result }
     {
         self.seconds
     }

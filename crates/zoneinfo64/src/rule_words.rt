@@ -32,7 +32,7 @@ fn between(low: i32, high: i32, word: u32) -> bool
 /// The days that a month may have, January first.
 fn longest_month(month: u32) -> u32
     ensures value { result ≡ longest_month month }
-    ensures few { result ≤ 31 }
+    ensures bound { result ≤ 31 }
 {
     match month {
         1 => 29,
@@ -105,7 +105,7 @@ fn date_from(month: u32, day: u32, code: u32, seconds: u32, mode: u32) -> RuleDa
 
 /// A date from its five numbers.
 fn date(month: u32, day: u32, code: u32, seconds: u32, mode: u32) -> Option<RuleDate>
-    ensures good { IfSome result (λ d. IsDateInRange (plain_date d)) }
+    ensures bound { IfSome result (λ d. IsDateInRange (plain_date d)) }
     ensures value { option_map plain_date result
         ≡ date_rule (as_i32 month) (as_i32 day) (as_i32 code) (as_i32 seconds) (as_i32 mode) }
 {
@@ -119,7 +119,7 @@ fn date(month: u32, day: u32, code: u32, seconds: u32, mode: u32) -> Option<Rule
 fn dates_from(start: Option<RuleDate>, end: Option<RuleDate>, extra: u32) -> Option<RuleDates>
     requires start { IfSome start (λ d. IsDateInRange (plain_date d)) }
     requires end { IfSome end (λ d. IsDateInRange (plain_date d)) }
-    ensures good { IfSome result (λ d. AreDatesInRange (raw_of d)) }
+    ensures bound { IfSome result (λ d. AreDatesInRange (raw_of d)) }
     ensures value { option_map raw_of result
         ≡ by_dates (option_map plain_date start) (option_map plain_date end) (as_i32 extra) }
 {
@@ -134,7 +134,7 @@ fn dates_from(start: Option<RuleDate>, end: Option<RuleDate>, extra: u32) -> Opt
 
 /// The rule of eleven integers: two dates and the extra offset.
 pub fn dates(words: &[u32]) -> Option<RuleDates>
-    ensures good { IfSome result (λ d. AreDatesInRange (raw_of d)) }
+    ensures bound { IfSome result (λ d. AreDatesInRange (raw_of d)) }
     ensures value { option_map raw_of result ≡ raw_rule words.now }
 {
     let [a, b, c, d, e, f, g, h, i, j, k] = words else {

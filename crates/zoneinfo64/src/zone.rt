@@ -258,7 +258,7 @@ impl<'a> Zone<'a> {
     /// through the table once, by a step for each entry. Takes no memory.
     pub fn check<L: Ledger>(&self, steps: &mut Steps<L>) -> Result<(), ZoneFault>
         ensures lawful { IfSome (plain_zone self.now) (λ z. IsOk result ↔ IsLawful z) }
-        ensures fault { IfSome (plain_zone self.now) (λ z. IfErr result (IsLeastBroken z)) }
+        ensures err { IfSome (plain_zone self.now) (λ z. IfErr result (IsLeastBroken z)) }
         ensures ticks { IfSome (plain_zone self.now)
             (λ z. steps.new ≤ steps.old + (2000 + length z.table)) }
     {
@@ -361,7 +361,7 @@ impl<'a> Zone<'a> {
     /// stands for.
     pub fn into_raw_parts(self) -> (u16, &'a ZoneInfo64)
         ensures place { result.0 ≡ place_in self.entry }
-        ensures within { result.0 < length (list_of self.entry) }
+        ensures bound { result.0 < length (list_of self.entry) }
         ensures list { result.1.now ≡ list_of self.entry }
     {
         (self.place, self.info)

@@ -9,8 +9,8 @@ returns-then-is_leap-clause-value c = grind (arith, common_steps, days_of_months
 pub returns-else-month-gt2-clause-value : goal.returns-else-month-gt2-clause-value
 returns-else-month-gt2-clause-value c = grind (arith, common_steps, days_of_months_table c.args.year (c.args.month - 1) (omega arith))
 
-pub returns-then-is_leap-clause-few : goal.returns-then-is_leap-clause-few
-returns-then-is_leap-clause-few c = grind (arith, common_steps, days_of_months_table c.args.year (c.args.month - 1) (omega arith), months_few c.args.year (c.args.month - 1) (omega arith))
+pub returns-then-is_leap-clause-bound : goal.returns-then-is_leap-clause-bound
+returns-then-is_leap-clause-bound c = grind (arith, common_steps, days_of_months_table c.args.year (c.args.month - 1) (omega arith), months_few c.args.year (c.args.month - 1) (omega arith))
 
-pub returns-else-month-gt2-clause-few : goal.returns-else-month-gt2-clause-few
-returns-else-month-gt2-clause-few c = omega (arith, days_of_months_table c.args.year (c.args.month - 1) (omega arith), months_few c.args.year (c.args.month - 1) (omega arith))
+pub returns-else-month-gt2-clause-bound : goal.returns-else-month-gt2-clause-bound
+returns-else-month-gt2-clause-bound c = omega (arith, days_of_months_table c.args.year (c.args.month - 1) (omega arith), months_few c.args.year (c.args.month - 1) (omega arith))

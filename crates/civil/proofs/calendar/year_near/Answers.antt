@@ -8,4 +8,4 @@ returns c =
     let years = c.years_in_cycle.ensures in
     let q = c.cycles-cycles.result.0 in
     let n = c.years_in_cycle.result in
-    year_in_cycle c.args.day q _ n c.cycles-cycles.result.1 (omega (arith, signed_casts)) (omega (arith, signed_casts)) years.bound years.begun years.not_over
+    year_in_cycle c.args.day q _ n c.cycles-cycles.result.1 (omega (arith, signed_casts)) (omega (arith, signed_casts)) years.bound years.low years.high

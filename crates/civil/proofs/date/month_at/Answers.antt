@@ -4,14 +4,14 @@ use Rattle.civil.proofs.CalendarLemmas.{near_month}
 use Rattle.civil.proofs.date.month_at.Goals as goal
 use Rattle.civil.proofs.date.month_at.Goals.{else-month-lt12-via-then-month-lt12+else-days_before_month-ordinal, else-month-lt12-via-else-month-lt12}
 
-pub returns-then-days_before_month-ordinal-clause-not_over : goal.returns-then-days_before_month-ordinal-clause-not_over
-returns-then-days_before_month-ordinal-clause-not_over c = let near = near_month c.args.year c.args.ordinal c.requires in near.not_over (omega arith)
+pub returns-then-days_before_month-ordinal-clause-high : goal.returns-then-days_before_month-ordinal-clause-high
+returns-then-days_before_month-ordinal-clause-high c = let near = near_month c.args.year c.args.ordinal c.requires in near.not_over (omega arith)
 
-pub returns-else-month-lt12-clause-begun : goal.returns-else-month-lt12-clause-begun
-returns-else-month-lt12-clause-begun c = let near = near_month c.args.year c.args.ordinal c.requires in near.begun
+pub returns-else-month-lt12-clause-low : goal.returns-else-month-lt12-clause-low
+returns-else-month-lt12-clause-low c = let near = near_month c.args.year c.args.ordinal c.requires in near.begun
 
-pub returns-else-month-lt12-clause-not_over : goal.returns-else-month-lt12-clause-not_over
-returns-else-month-lt12-clause-not_over c =
+pub returns-else-month-lt12-clause-high : goal.returns-else-month-lt12-clause-high
+returns-else-month-lt12-clause-high c =
     let near = near_month c.args.year c.args.ordinal c.requires in
     elim c.else-month-lt12.branch [
       | else-month-lt12-via-then-month-lt12+else-days_before_month-ordinal w ↦

@@ -22,5 +22,5 @@ overflow_cast-result c = let o = ordinal_in c.args.day c.args.year c.requires in
 pub returns-clause-value : goal.returns-clause-value
 returns-clause-value c = let o = ordinal_in c.args.day c.args.year c.requires in omega (arith, signed_casts, start c, o.0, o.1, o.2, one_part (number c))
 
-pub returns-clause-few : goal.returns-clause-few
-returns-clause-few c = let o = ordinal_in c.args.day c.args.year c.requires in omega (arith, signed_casts, start c, o.0, o.1, o.2, one_part (number c))
+pub returns-clause-bound : goal.returns-clause-bound
+returns-clause-bound c = let o = ordinal_in c.args.day c.args.year c.requires in omega (arith, signed_casts, start c, o.0, o.1, o.2, one_part (number c))

@@ -20,7 +20,7 @@ returns-clause-place c =
     let o = c.ordinal_in.ensures in
     let at = ordinal_day-is (to_z w32 (of_z w32 c.year_in-year.result)) (c.ordinal_in.result + 1) in
     record {
-      exists = record { first = omega arith; last = omega (arith, o.few) };
+      exists = record { first = omega arith; last = omega (arith, o.bound) };
       is = omega (arith, signed_arith, o.value, at);
     }
 

@@ -17,7 +17,7 @@ returns c =
     let months = λ (n : ℕ). ap (λ y. days_of_months y n) same in
     let month = c.month_at-month.result in
     moved_date _ _ _ _ _ _ refl (sym same)
-    (date_by_parts c.args.day c.year_in-year.result c.ordinal_in-ordinal.result month c.days_before_month.result c.requires holds ordinal c.month_at-month.ensures.from c.month_at-month.ensures.to
+    (date_by_parts c.args.day c.year_in-year.result c.ordinal_in-ordinal.result month c.days_before_month.result c.requires holds ordinal c.month_at-month.ensures.first c.month_at-month.ensures.last
     (c.days_before_month.ensures.value ∙ months (month - 1))
-    (omega (arith, c.month_at-month.ensures.begun, months (month - 1)))
-    (omega (arith, c.month_at-month.ensures.not_over, months month)))
+    (omega (arith, c.month_at-month.ensures.low, months (month - 1)))
+    (omega (arith, c.month_at-month.ensures.high, months month)))

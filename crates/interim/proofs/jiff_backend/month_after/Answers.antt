@@ -31,8 +31,8 @@ returns-clause-month c =
     let is : c.rem_euclid.result ≡ int_rem_euclid (month_number c.args.year c.args.month c.args.months) (pos 12) = c.rem_euclid.ensures.value ∙ ap (λ (x : ℤ). int_rem_euclid x (pos 12)) (omega (arith, signed_casts)) in
     month_back c.rem_euclid.result (month_number c.args.year c.args.month c.args.months) is
 
-pub returns-clause-near : goal.returns-clause-near
-returns-clause-near c =
+pub returns-clause-bound : goal.returns-clause-bound
+returns-clause-bound c =
     let low : negsuc 400000000 ≤ℤ c.div_euclid.result = omega (arith, signed_casts) in
     let high : c.div_euclid.result ≤ℤ pos 400000000 = omega (arith, signed_casts) in
     let same = back c.div_euclid.result low high in

@@ -3,8 +3,8 @@ use Rattle.resb.specs.KeyPlan.{places_in}
 use Rattle.resb.proofs.PlacedKeys.{units_past, most_past}
 use Rattle.resb.proofs.draft.push_places.Goals as goal
 
-pub returns-then-at-gt65535-clause-refused : goal.returns-then-at-gt65535-clause-refused
-returns-then-at-gt65535-clause-refused c =
+pub returns-then-at-gt65535-clause-err : goal.returns-then-at-gt65535-clause-err
+returns-then-at-gt65535-clause-err c =
     let d : Bor (List ℕ) = record { ref_ptr = (0, 0); now = [] } in
     λ all. omega (arith, c.loop-key.invariant.near all, most_past (places_in c.args.pool.now) c.args.keys.now d c.loop-key.key-index c.loop-key-test.true, c.place-at.ensures, c.if-at-gt65535.true)
 

@@ -26,7 +26,7 @@ over-requires-clause-good c = pool_good c.args.tree.now _ (sym c.in_ok-has_bad_k
 pub returns-in_err-draft-clause-words : goal.returns-in_err-draft-clause-words
 returns-in_err-draft-clause-words c =
     let good : has_bad_key c.args.tree.now ≡ false = sym c.in_ok-has_bad_key.ensures ∙ c.if-branch.false in
-    error_on view c.from_residual-in_err-draft.result _ _ c.from_residual-in_err-draft.ensures.1 (refusal_told c.args.tree.now _ view _ good (over_end c.args.tree.now _ c.in_ok-pool.ensures) c.in_err-draft.ensures.refused)
+    error_on view c.from_residual-in_err-draft.result _ _ c.from_residual-in_err-draft.ensures.1 (refusal_told c.args.tree.now _ view _ good (over_end c.args.tree.now _ c.in_ok-pool.ensures) c.in_err-draft.ensures.err)
 
 pub returns-in_err-tell-clause-words : goal.returns-in_err-tell-clause-words
 returns-in_err-tell-clause-words c =
@@ -43,7 +43,7 @@ returns-clause-words c =
     let none : any_bad (has_bad_key t ∷ []) ≡ false = rw good refl in
     let begun : Holds c.in_ok-draft.draft (key_pool t) [] = rw (pool_is t _ c.in_ok-pool.ensures) at c.in_ok-draft.ensures.holds in
     let held : Holds c.tell.new.draft (key_pool t) (t ∷ []) = c.in_ok-tell.ensures (key_pool t) [] none begun in
-    answer_told view t c.write.result good (row_kept t _ _ _ _ _ _ held.1) (c.write.ensures.words t held) (c.write.ensures.light t held) (c.write.ensures.refused (key_pool t) (t ∷ []) held)
+    answer_told view t c.write.result good (row_kept t _ _ _ _ _ _ held.1) (c.write.ensures.words t held) (c.write.ensures.bound t held) (c.write.ensures.err (key_pool t) (t ∷ []) held)
 
 pub returns-clause-denoted : goal.returns-clause-denoted
 returns-clause-denoted c =

@@ -24,5 +24,5 @@ pub returns-clause-value : goal.returns-clause-value
 returns-clause-value c =
     bytes_all (told c.args.body) c.args.place c.loop-at.at c.loop-at.invariant.key (sym c.byte_at.ensures ∙ c.loop-at-test.false) c.loop-at.invariant.whole
 
-pub returns-clause-within : goal.returns-clause-within
-returns-clause-within c = let low = key_low (told c.args.body) c.loop-at.at c.loop-at.invariant.key in omega arith
+pub returns-clause-bound : goal.returns-clause-bound
+returns-clause-bound c = let low = key_low (told c.args.body) c.loop-at.at c.loop-at.invariant.key in omega arith

@@ -16,7 +16,7 @@ further : (g : Over) (c : In-Ok-serve_piece g) → HasServed (g.A.Answer.reply c
 further g c =
     let front = take-append-le c.in-Ok.count c.read.new.buf (drop c.min-room.result c.serving.piece) c.in-Ok.ensures.bound.0 in
     serves_piece (g.A.Answer.reply c.args.engine.now) _ _ _ _ _ _ c.serving.start c.serve_piece.new.start _ _ c.serving.taken c.in-Ok.count
-    c.serving.invariant.served c.in-Ok.ensures.bytes.0 front c.in-Ok-serve_piece.ensures.all c.in-Ok.ensures.bound.1
+    c.serving.invariant.served c.in-Ok.ensures.bytes.0 front c.in-Ok-serve_piece.ensures.ok c.in-Ok.ensures.bound.1
 
 pub returns-in-Err-Fault-serve_piece-clause-taken : goal.returns-in-Err-Fault-serve_piece-clause-taken
 returns-in-Err-Fault-serve_piece-clause-taken g c =
@@ -51,5 +51,5 @@ serving-preserved g c = record {
   served = further g (goal.at.serving-preserved g c).In-Ok-serve_piece;
   in_range = omega arith;
   read_later = omega (arith, c.in-Ok.ensures.cause.later);
-  written_later = omega (arith, c.in-Ok-serve_piece.ensures.later);
+  written_later = omega (arith, c.in-Ok-serve_piece.ensures.faults);
 }

@@ -10,5 +10,5 @@ writing-preserved g c = record {
   later = omega arith;
 }
 
-pub returns-in_err-place-clause-part : goal.returns-in_err-place-clause-part
-returns-in_err-place-clause-part g c = wrote_front _ _ _ _ _ c.writing.invariant.gained c.in_err-place.ensures.bytes
+pub returns-in_err-place-clause-written : goal.returns-in_err-place-clause-written
+returns-in_err-place-clause-written g c = wrote_front _ _ _ _ _ c.writing.invariant.gained c.in_err-place.ensures.bytes

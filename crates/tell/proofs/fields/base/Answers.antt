@@ -12,11 +12,11 @@ pub range_from-requires : goal.range_from-requires
 range_from-requires c =
     λ some.
     let n : c.in_ok-number-in-45.count + 1 + 1 ≡ c.in_ok-number-in-45.count + 2 = omega arith in
-    rw (← n) (IsCharBoundary-after_ascii c.args.text.now (c.in_ok-number-in-45.count + 1) c.utf8.text (grind (arith, c.in_ok-number-in-45.ensures.within, common_steps)) (grind (arith, c.in_ok-number-in-45.ensures.tab, common_steps)))
+    rw (← n) (IsCharBoundary-after_ascii c.args.text.now (c.in_ok-number-in-45.count + 1) c.utf8.text (grind (arith, c.in_ok-number-in-45.ensures.len, common_steps)) (grind (arith, c.in_ok-number-in-45.ensures.tab, common_steps)))
 
 pub range_from-requires-in_default : goal.range_from-requires-in_default
 range_from-requires-in_default c =
-    λ some. IsCharBoundary-after_ascii c.args.text.now c.in_ok-number-in_default.count c.utf8.text (grind (arith, c.in_ok-number-in_default.ensures.within, common_steps)) (grind (arith, c.in_ok-number-in_default.ensures.tab, common_steps))
+    λ some. IsCharBoundary-after_ascii c.args.text.now c.in_ok-number-in_default.count c.utf8.text (grind (arith, c.in_ok-number-in_default.ensures.len, common_steps)) (grind (arith, c.in_ok-number-in_default.ensures.tab, common_steps))
 
 pub returns-in_ok-number-in-45 : goal.returns-in_ok-number-in-45
 returns-in_ok-number-in-45 c =

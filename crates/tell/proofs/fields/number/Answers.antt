@@ -36,5 +36,5 @@ returns-clause-value c =
     let tab : get_or xs i 0 ≡ 9 = c.if-bytes-count-ne9.false in
     number_cut-is xs ∙ sym c.loop-count.invariant.rest ∙ rw (drop_more xs i 0 inside, tab) (read_on-tab c.loop-count.value i (drop (i + 1) xs) (omega (arith, c.if-count-eq0.false)) (omega arith))
 
-pub returns-clause-small : goal.returns-clause-small
-returns-clause-small c = omega (arith, pow-le-pow_right {n = 10} (omega arith) {i = c.loop-count.count} {j = 12} (omega arith))
+pub returns-clause-bound : goal.returns-clause-bound
+returns-clause-bound c = omega (arith, pow-le-pow_right {n = 10} (omega arith) {i = c.loop-count.count} {j = 12} (omega arith))

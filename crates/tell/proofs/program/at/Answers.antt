@@ -6,8 +6,8 @@ use Rattle.tell.proofs.program.at.Goals as goal
 pub returns-in-Err-TooLong-clause-ends : goal.returns-in-Err-TooLong-clause-ends
 returns-in-Err-TooLong-clause-ends g c = ends_by_bundle c.args.language _ _ (bundle_over _ (c.in-Err-TooLong.ensures.too_long (search rules)))
 
-pub returns-in-Err-TooLong-clause-refused : goal.returns-in-Err-TooLong-clause-refused
-returns-in-Err-TooLong-clause-refused g c = λ _. bundle_over _ (c.in-Err-TooLong.ensures.too_long (search rules))
+pub returns-in-Err-TooLong-clause-bundle : goal.returns-in-Err-TooLong-clause-bundle
+returns-in-Err-TooLong-clause-bundle g c = λ _. bundle_over _ (c.in-Err-TooLong.ensures.too_long (search rules))
 
 pub returns-clause-stands : goal.returns-clause-stands
 returns-clause-stands g c =

@@ -12,17 +12,17 @@ use Rattle.timeline.proofs.KeptRules.{kept-year}
 use Rattle.timeline.proofs.CheckWhole.{T, NoRule, WithRule, none_told, some_told}
 use Rattle.timeline.proofs.check.least_fault.Goals as goal
 
-pub returns-in-None-clause-told : goal.returns-in-None-clause-told
-returns-in-None-clause-told g c =
+pub returns-in-None-clause-value : goal.returns-in-None-clause-value
+returns-in-None-clause-value g c =
     let z = c.args.zone.now in
     let P : Offset → Type 0 = λ o. TellsLeast (SizeKept o) c.initial_fault-least.result in
     let Q : Told → Type 0 = λ t. TellsLeast (NoRule z) t in
     let size = subst P c.initial.ensures c.initial_fault-least.ensures in
     none_told z c.least_of.result (sym c.rule.ensures ∙ ap (option_map (λ (r : Bor PlainRule). r.now)) c.in-None.is)
-    (subst Q (sym c.least_of.ensures) (tells-both (SizeKept z.initial) (T z None) c.initial_fault-least.result c.table_fault.result size c.table_fault.ensures.told))
+    (subst Q (sym c.least_of.ensures) (tells-both (SizeKept z.initial) (T z None) c.initial_fault-least.result c.table_fault.result size c.table_fault.ensures.value))
 
-pub returns-in-Some-clause-told : goal.returns-in-Some-clause-told
-returns-in-Some-clause-told g c =
+pub returns-in-Some-clause-value : goal.returns-in-Some-clause-value
+returns-in-Some-clause-value g c =
     let z = c.args.zone.now in
     let r = c.in-Some.rule.now in
     let kept = c.years-years.ensures in
@@ -40,7 +40,7 @@ returns-in-Some-clause-told g c =
     let Q2 : Told → Type 0 = λ t. TellsLeast K2 t in
     let Q3 : Told → Type 0 = λ t. TellsLeast (WithRule z r) t in
     let size = subst P1 c.initial.ensures c.initial_fault-least.ensures in
-    let table = subst Q1 (sym c.least_of-least.ensures) (tells-both (SizeKept z.initial) (T z L) c.initial_fault-least.result c.table_fault-in-Some.result size (subst P2 limit c.table_fault-in-Some.ensures.told)) in
-    let rule = subst Q2 (sym c.least_of-least-in-Some.ensures) (tells-both K1 (RuleKeeps r (table_before z.initial z.table (length z.table))) c.least_of-least.result c.rule_fault.result table (subst P3 (c.offset_before-last.ensures ∙ ap (table_before z.initial z.table) c.len.ensures) (c.rule_fault.ensures.told r kept))) in
+    let table = subst Q1 (sym c.least_of-least.ensures) (tells-both (SizeKept z.initial) (T z L) c.initial_fault-least.result c.table_fault-in-Some.result size (subst P2 limit c.table_fault-in-Some.ensures.value)) in
+    let rule = subst Q2 (sym c.least_of-least-in-Some.ensures) (tells-both K1 (RuleKeeps r (table_before z.initial z.table (length z.table))) c.least_of-least.result c.rule_fault.result table (subst P3 (c.offset_before-last.ensures ∙ ap (table_before z.initial z.table) c.len.ensures) (c.rule_fault.ensures.value r kept))) in
     some_told z r c.least_of-in-Some.result (sym c.rule.ensures ∙ ap (option_map (λ (r : Bor PlainRule). r.now)) c.in-Some.is)
-    (subst Q3 (sym c.least_of-in-Some.ensures) (tells-both K2 (YearsKeep r) c.least_of-least-in-Some.result c.years_fault.result rule (c.years_fault.ensures.told r kept)))
+    (subst Q3 (sym c.least_of-in-Some.ensures) (tells-both K2 (YearsKeep r) c.least_of-least-in-Some.result c.years_fault.result rule (c.years_fault.ensures.value r kept)))

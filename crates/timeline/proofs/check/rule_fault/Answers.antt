@@ -8,8 +8,8 @@ use Rattle.timeline.proofs.CheckLaws.{small_moved}
 use Rattle.timeline.proofs.CheckYears.{before_same, first_example}
 use Rattle.timeline.proofs.check.rule_fault.Goals as goal
 
-pub returns-then-not-are_small-clause-told : goal.returns-then-not-are_small-clause-told
-returns-then-not-are_small-clause-told g c = λ r is. size_broken (RuleKeeps r c.args.last) tt tt (λ small.
+pub returns-then-not-are_small-clause-value : goal.returns-then-not-are_small-clause-value
+returns-then-not-are_small-clause-value g c = λ r is. size_broken (RuleKeeps r c.args.last) tt tt (λ small.
     let raw = c.offsets-raw.ensures.raw ∙ ap (λ (k : KeptRule). k.raw) is ∙ kept-raw r in
     let sum = c.offsets-raw.ensures.sum ∙ ap (λ (k : KeptRule). k.raw +ℤ k.extra) is ∙ ap (λ x. x +ℤ (kept_rule r).extra) (kept-raw r) ∙ ap (λ x. r.raw +ℤ x) (kept-extra r) in
     let raw_fits : FitsSigned w32 c.offsets-raw.result.0 = search rules in
@@ -18,8 +18,8 @@ returns-then-not-are_small-clause-told g c = λ r is. size_broken (RuleKeeps r c
     let apart : true ≡ false = sym yes ∙ c.if-not-are_small.true in
     cc)
 
-pub returns-then-not-same_offset-clause-told : goal.returns-then-not-same_offset-clause-told
-returns-then-not-same_offset-clause-told g c = λ r is.
+pub returns-then-not-same_offset-clause-value : goal.returns-then-not-same_offset-clause-value
+returns-then-not-same_offset-clause-value g c = λ r is.
     let raw = c.offsets-raw.ensures.raw ∙ ap (λ (k : KeptRule). k.raw) is ∙ kept-raw r in
     let sum = c.offsets-raw.ensures.sum ∙ ap (λ (k : KeptRule). k.raw +ℤ k.extra) is ∙ ap (λ x. x +ℤ (kept_rule r).extra) (kept-raw r) ∙ ap (λ x. r.raw +ℤ x) (kept-extra r) in
     let raw_fits : FitsSigned w32 c.offsets-raw.result.0 = search rules in
@@ -31,8 +31,8 @@ returns-then-not-same_offset-clause-told g c = λ r is.
     let apart : true ≡ false = sym yes ∙ c.if-not-same_offset.true in
     cc)
 
-pub returns-clause-told : goal.returns-clause-told
-returns-clause-told g c = λ r is.
+pub returns-clause-value : goal.returns-clause-value
+returns-clause-value g c = λ r is.
     let raw = c.offsets-raw.ensures.raw ∙ ap (λ (k : KeptRule). k.raw) is ∙ kept-raw r in
     let sum = c.offsets-raw.ensures.sum ∙ ap (λ (k : KeptRule). k.raw +ℤ k.extra) is ∙ ap (λ x. x +ℤ (kept_rule r).extra) (kept-raw r) ∙ ap (λ x. r.raw +ℤ x) (kept-extra r) in
     let raw_fits : FitsSigned w32 c.offsets-raw.result.0 = search rules in

@@ -19,8 +19,8 @@ overflow_add-high g c = omega (arith, signed_arith, c.example_day-day.ensures.lo
 pub lie_apart-requires-clause-high : goal.lie_apart-requires-clause-high
 lie_apart-requires-clause-high g c = omega (arith, signed_arith, c.example_day-day.ensures.low, c.example_day-day.ensures.high, c.seconds_of_kind.ensures.low, c.seconds_of_kind.ensures.high)
 
-pub returns-then-lie_apart-clause-told : goal.returns-then-lie_apart-clause-told
-returns-then-lie_apart-clause-told g c = λ r is.
+pub returns-then-lie_apart-clause-value : goal.returns-then-lie_apart-clause-value
+returns-then-lie_apart-clause-value g c = λ r is.
     let k = c.args.kind in
     let y = example_year k in
     let day_fits : FitsSigned w64 c.example_day-day.result = search rules in
@@ -40,8 +40,8 @@ returns-then-lie_apart-clause-told g c = λ r is.
     (c.lie_apart.ensures c.if-lie_apart.true)
     (small_moved _ _ (ap (λ (k : KeptRule). k.raw) is ∙ kept-raw r) small.0, small_moved _ _ (ap (λ (k : KeptRule). k.raw +ℤ k.extra) is ∙ kept-sum r) small.1)
 
-pub returns-clause-told : goal.returns-clause-told
-returns-clause-told g c = λ r is.
+pub returns-clause-value : goal.returns-clause-value
+returns-clause-value g c = λ r is.
     let k = c.args.kind in
     let y = example_year k in
     let day_fits : FitsSigned w64 c.example_day-day.result = search rules in

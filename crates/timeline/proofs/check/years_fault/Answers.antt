@@ -18,11 +18,11 @@ loop-kind-preserved g c =
       told = λ r is.
           let K : ZoneFault → ℕ → Type 0 = λ f m. YearKeeps r (example_year m) f in
           let Q : Told → Type 0 = λ t. TellsLeast (λ f. (m : ℕ) → m < n + 1 → K f m) t in
-          subst Q (sym c.least_of-least.ensures) (tells_more K n c.loop-kind.least c.year_fault-fault.result (c.loop-kind.invariant.told r is) (c.year_fault-fault.ensures.told r is));
+          subst Q (sym c.least_of-least.ensures) (tells_more K n c.loop-kind.least c.year_fault-fault.result (c.loop-kind.invariant.told r is) (c.year_fault-fault.ensures.value r is));
     }
 
-pub returns-clause-told : goal.returns-clause-told
-returns-clause-told g c = λ r is.
+pub returns-clause-value : goal.returns-clause-value
+returns-clause-value g c = λ r is.
     let all : c.loop-kind.kind ≡ 14 = omega (arith, c.loop-kind.auto.kind-end) in
     let P : ℕ → Type 0 = λ n. TellsLeast (λ f. (m : ℕ) → m < n → YearKeeps r (example_year m) f) c.loop-kind.least in
     let first : c.args.rule.now.first_year ≡ r.first_year = ap (λ (k : KeptRule). k.first_year) is ∙ kept-year r in

@@ -16,7 +16,7 @@ returns-in-InMonth c = λ r month day code.
     let none : r.code ≡ pos 0 = code ∙ ap day_code c.in-InMonth.is in
     let some : 1 ≤ unsigned_abs r.day = omega (arith, c.requires.some_day, ap unsigned_abs day) in
     let place = place_anchor r c.args.kind c.month_place-first.result (is_zero r.code none) first some in
-    omega (arith, signed_casts, place, size, some, c.month_place-first.ensures.few, c.requires.last_day, ap unsigned_abs day)
+    omega (arith, signed_casts, place, size, some, c.month_place-first.ensures.bound, c.requires.last_day, ap unsigned_abs day)
 
 pub returns-in-Nth : goal.returns-in-Nth
 returns-in-Nth c = λ r month day code.
@@ -29,7 +29,7 @@ returns-in-Nth c = λ r month day code.
     let some = is_no_zero r.code (λ none. let no : pos (suc c.in-Nth.weekday) ≡ pos 0 = sym same ∙ none in cc) in
     let above : int_lt (pos 0) r.code ≡ true = ap (int_lt (pos 0)) same ∙ lt-ltb 0 (suc c.in-Nth.weekday) (omega arith) in
     let place = place_from_month r c.args.kind c.month_place-first.result (pos c.first_from.result) some above first found in
-    omega (arith, signed_casts, place, day, c.first_from.ensures.near, c.month_place-first.ensures.few, c.requires.last_day)
+    omega (arith, signed_casts, place, day, c.first_from.ensures.bound, c.month_place-first.ensures.bound, c.requires.last_day)
 
 pub returns-then-day-gt0 : goal.returns-then-day-gt0
 returns-then-day-gt0 c = λ r month day code.
@@ -47,7 +47,7 @@ returns-then-day-gt0 c = λ r month day code.
     let below : int_lt (pos 0) r.code ≡ false = ap (int_lt (pos 0)) same in
     let above : int_lt (pos 0) r.day ≡ true = ap (int_lt (pos 0)) (sym same_day) ∙ c.if-day-gt0.true in
     let place = place_from_anchor r c.args.kind c.month_place-first.result (pos c.first_from-then-day-gt0.result) some below above first (omega (arith, c.requires.some_day, ap unsigned_abs day)) found in
-    omega (arith, signed_casts, place, day_size, c.first_from-then-day-gt0.ensures.near, c.month_place-first.ensures.few, c.requires.last_day, ap unsigned_abs day)
+    omega (arith, signed_casts, place, day_size, c.first_from-then-day-gt0.ensures.bound, c.month_place-first.ensures.bound, c.requires.last_day, ap unsigned_abs day)
 
 pub returns-else-day-gt0 : goal.returns-else-day-gt0
 returns-else-day-gt0 c = λ r month day code.
@@ -65,4 +65,4 @@ returns-else-day-gt0 c = λ r month day code.
     let below : int_lt (pos 0) r.code ≡ false = ap (int_lt (pos 0)) same in
     let not_above : int_lt (pos 0) r.day ≡ false = ap (int_lt (pos 0)) (sym same_day) ∙ c.if-day-gt0.false in
     let place = place_to_anchor r c.args.kind c.month_place-first.result c.last_to.result some below not_above first (omega (arith, c.requires.some_day, ap unsigned_abs day)) found in
-    omega (arith, signed_casts, place, day_size, c.last_to.ensures.low, c.last_to.ensures.high, c.month_place-first.ensures.few, c.requires.last_day, ap unsigned_abs day)
+    omega (arith, signed_casts, place, day_size, c.last_to.ensures.low, c.last_to.ensures.high, c.month_place-first.ensures.bound, c.requires.last_day, ap unsigned_abs day)

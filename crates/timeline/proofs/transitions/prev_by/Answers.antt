@@ -12,10 +12,10 @@ returns-in-Table g c lawful =
     let second = to_z-of_z w64 c.args.second c.ranges.second in
     let near = rw second at c.nearest_year-year.ensures in
     let told = rw year at c.in-Table.ensures.value in
-    let cut = (rw second at c.table_cut-place.ensures.cut) lawful.order in
+    let cut = (rw second at c.table_cut-place.ensures.value) lawful.order in
     let before = before_start c.args.zone.now.rule c.nearest_year-year.result c.args.second near c.entries_of.ensures.starts (before_rule c.args.zone.now.rule c.nearest_year-year.result told) in
     answers_prev c.args.zone.now c.args.second c.args.exact c.args.change c.table_cut-place.result c.last_in_table.result lawful
-    (cut_by_table c.args.zone.now c.args.exact c.args.second c.table_cut-place.result lawful before cut c.table_cut-place.ensures.within) c.last_in_table.ensures
+    (cut_by_table c.args.zone.now c.args.exact c.args.second c.table_cut-place.result lawful before cut c.table_cut-place.ensures.bound) c.last_in_table.ensures
 
 pub returns : goal.returns
 returns g c lawful =

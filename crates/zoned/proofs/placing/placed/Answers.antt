@@ -19,7 +19,7 @@ returns-in-None-clause-outside g c =
       wall_of c.args.wall.now -ℤ g.Tz.Offset.Offset.seconds (first_offset c.civil-answer.result),
       (λ sound. placed-civil _ (g.Tz.TimeZone.off c.args.zone.now) _ _ c.civil-answer.result (c.civil-answer.ensures.counts sound) refl),
       (λ is.
-          let no : false ≡ true = c.in-None.ensures.some.1 (record { first = omega (arith, signed_arith, picked, c.fix.ensures, at.value, at.range.west, at.range.east, is.first); last = omega (arith, signed_arith, picked, c.fix.ensures, at.value, at.range.west, at.range.east, is.last) }) in
+          let no : false ≡ true = c.in-None.ensures.some.1 (record { first = omega (arith, signed_arith, picked, c.fix.ensures, at.value, at.bound.west, at.bound.east, is.first); last = omega (arith, signed_arith, picked, c.fix.ensures, at.value, at.bound.west, at.bound.east, is.last) }) in
           cc),
     )
 

@@ -5,8 +5,8 @@ use Rattle.timeline.specs.Ranges.{IsDateInRange}
 use Rattle.zoneinfo64.proofs.RuleWords.{date_given, date_refused, date_good}
 use Rattle.zoneinfo64.proofs.rule_words.date.Goals as goal
 
-pub returns-then-is_date-clause-good : goal.returns-then-is_date-clause-good
-returns-then-is_date-clause-good c =
+pub returns-then-is_date-clause-bound : goal.returns-then-is_date-clause-bound
+returns-then-is_date-clause-bound c =
     let P : DateRule → Type 0 = λ r. IsDateInRange r in
     subst P (sym c.date_from.ensures) (date_good (as_i32 c.args.month) (as_i32 c.args.day) (as_i32 c.args.code) (as_i32 c.args.seconds) (as_i32 c.args.mode) (sym c.if-is_date.ensures))
 

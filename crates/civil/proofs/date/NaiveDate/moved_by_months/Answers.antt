@@ -23,7 +23,7 @@ move c =
     let fits : FitsSigned w32 c.year_month_day-year.result.0 = search rules in
     let same_year : to_z w32 (of_z w32 c.year_month_day-year.result.0) ≡ c.year_month_day-year.result.0 = to_z-of_z fits in
     let same_months : to_z w64 (of_z w64 c.args.months) ≡ c.args.months = to_z-of_z c.ranges.months in
-    let same_day : to_z w64 (of_z w64 c.day_number.result) ≡ c.args.self = omega (arith, signed_arith, c.day_number.ensures.value, c.day_number.ensures.range.first, c.day_number.ensures.range.last) in
+    let same_day : to_z w64 (of_z w64 c.day_number.result) ≡ c.args.self = omega (arith, signed_arith, c.day_number.ensures.value, c.day_number.ensures.bound.first, c.day_number.ensures.bound.last) in
     let is : IsDateOf c.args.self year month day = moved_date _ _ _ _ _ _ same_day refl c.year_month_day-year.ensures in
     let after = c.month_after-new_year.ensures in
     code_moves c.args.self year c.month_after-new_year.result.0 month day c.month_after-new_year.result.1 c.min-new_day.result c.args.months is

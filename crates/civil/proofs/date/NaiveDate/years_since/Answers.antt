@@ -13,9 +13,9 @@ years c y m d y' m' d' is is' =
     let date = c.year_month_day-year.ensures in
     let base = c.year_month_day-base_year.ensures in
     let here : IsDateOf c.args.self.now c.year_month_day-year.result.0 c.year_month_day-year.result.1 c.year_month_day-year.result.2 =
-    moved_date _ _ _ _ _ _ (omega (arith, signed_arith, c.day_number.ensures.value, c.day_number.ensures.range.first, c.day_number.ensures.range.last)) refl date in
+    moved_date _ _ _ _ _ _ (omega (arith, signed_arith, c.day_number.ensures.value, c.day_number.ensures.bound.first, c.day_number.ensures.bound.last)) refl date in
     let there : IsDateOf c.args.base c.year_month_day-base_year.result.0 c.year_month_day-base_year.result.1 c.year_month_day-base_year.result.2 =
-    moved_date _ _ _ _ _ _ (omega (arith, signed_arith, c.day_number-2.ensures.value, c.day_number-2.ensures.range.first, c.day_number-2.ensures.range.last)) refl base in
+    moved_date _ _ _ _ _ _ (omega (arith, signed_arith, c.day_number-2.ensures.value, c.day_number-2.ensures.bound.first, c.day_number-2.ensures.bound.last)) refl base in
     let fits : FitsSigned w32 c.year_month_day-year.result.0 = search rules in
     let same : to_z w32 (of_z w32 c.year_month_day-year.result.0) ≡ c.year_month_day-year.result.0 = to_z-of_z fits in
     let fits' : FitsSigned w32 c.year_month_day-base_year.result.0 = search rules in

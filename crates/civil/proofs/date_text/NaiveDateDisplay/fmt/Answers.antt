@@ -10,7 +10,7 @@ pub returns-clause-writes : goal.returns-clause-writes
 returns-clause-writes g c = λ plain ok.
     let date = c.year_month_day-year.result in
     let here : IsDateOf c.args.self.now date.0 date.1 date.2 =
-    moved_date _ _ _ _ _ _ (omega (arith, signed_arith, c.day_number.ensures.value, c.day_number.ensures.range.first, c.day_number.ensures.range.last)) refl c.year_month_day-year.ensures in
+    moved_date _ _ _ _ _ _ (omega (arith, signed_arith, c.day_number.ensures.value, c.day_number.ensures.bound.first, c.day_number.ensures.bound.last)) refl c.year_month_day-year.ensures in
     let fits : FitsSigned w32 c.year_month_day-year.result.0 = search rules in
     let same : to_z w32 (of_z w32 c.year_month_day-year.result.0) ≡ c.year_month_day-year.result.0 = to_z-of_z fits in
     let text = written c.sign_of-sign.result.now c.unsigned_abs-size.result date.0 date.1 date.2 (c.sign_of-sign.ensures ∙ ap year_sign same) (c.unsigned_abs-size.ensures.value ∙ ap unsigned_abs same) in

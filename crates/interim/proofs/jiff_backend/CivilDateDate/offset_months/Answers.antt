@@ -50,7 +50,7 @@ returns c =
     let months = to_z-of_z c.ranges.months in
     let year : after.0 ≡ moved_year date.year date.month c.args.months = moved.year ∙ ap (λ (x : ℤ). moved_year x date.month (to_z w32 (of_z w32 c.args.months))) (year_back date) ∙ ap (λ (n : ℤ). moved_year date.year date.month n) months in
     let month : after.1 ≡ moved_month date.year date.month c.args.months = moved.month ∙ ap (λ (x : ℤ). moved_month x date.month (to_z w32 (of_z w32 c.args.months))) (year_back date) ∙ ap (λ (n : ℤ). moved_month date.year date.month n) months in
-    let back : to_z w16 (of_z w16 (to_z w32 (of_z w32 after.0))) ≡ after.0 = omega (arith, signed_casts, moved.near.0, moved.near.1, c.if-year-ltminus9999.false, c.if-year-gt9999.false) in
+    let back : to_z w16 (of_z w16 (to_z w32 (of_z w32 after.0))) ≡ after.0 = omega (arith, signed_casts, moved.bound.0, moved.bound.1, c.if-year-ltminus9999.false, c.if-year-gt9999.false) in
     let found : within jiff_days (months_on date.year date.month date.day c.args.months) ≡ Some (epoch_day c.constrain-cut.result) = moved_in date c.constrain-cut.result after.0 c.args.months after.1 year month (cut.year ∙ back) cut.month (cut.day ∙ ap (λ (y : ℤ). min date.day (days_in_month y after.1)) back) in
     subst (IsMoved c.args.months (Some (epoch_day c.from_plain.result))) c.to_plain-date.ensures (
       date.year,

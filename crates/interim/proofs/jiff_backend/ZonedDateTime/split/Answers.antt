@@ -9,7 +9,7 @@ use Rattle.interim.proofs.jiff_backend.ZonedDateTime.split.Goals as goal
 pub returns-clause-wall : goal.returns-clause-wall
 returns-clause-wall c = zoned_shows (plain_zoned c.args.self) c.date.result c.time.result c.date.ensures c.time.ensures
 
-pub returns-clause-inside : goal.returns-clause-inside
-returns-clause-inside c =
+pub returns-clause-bound : goal.returns-clause-bound
+returns-clause-bound c =
     let range = epoch_day_range c.date.result in
     is_within-of jiff_days (epoch_day c.date.result) range.0 range.1

@@ -7,7 +7,7 @@ use Rattle.interim.proofs.zoned_backend.NaiveDateDate.offset_months.Goals as goa
 
 pub returns-in-Some : goal.returns-in-Some
 returns-in-Some c =
-    let inside : IsDay c.args.self = subst IsDay c.day_number-day.ensures.value c.day_number-day.ensures.range in
+    let inside : IsDay c.args.self = subst IsDay c.day_number-day.ensures.value c.day_number-day.ensures.bound in
     let date = date_of_day c.args.self inside in
     let of : IsDateOf c.args.self date.0 date.1 date.2 = record { exists = date.3; is = date.4 } in
     let same : to_z w32 (of_z w32 c.args.months) ≡ c.args.months = to_z-of_z c.ranges.months in
@@ -21,7 +21,7 @@ returns-in-Some c =
 
 pub returns-in-None : goal.returns-in-None
 returns-in-None c =
-    let inside : IsDay c.args.self = subst IsDay c.day_number-day.ensures.value c.day_number-day.ensures.range in
+    let inside : IsDay c.args.self = subst IsDay c.day_number-day.ensures.value c.day_number-day.ensures.bound in
     let date = date_of_day c.args.self inside in
     let of : IsDateOf c.args.self date.0 date.1 date.2 = record { exists = date.3; is = date.4 } in
     let same : to_z w32 (of_z w32 c.args.months) ≡ c.args.months = to_z-of_z c.ranges.months in

@@ -27,7 +27,7 @@ returns-in-Some-clause-wall g c =
     let parts = wall_parts (wall_of c.in-Some.wall) in
     let offset = c.local_minus_utc.ensures in
     record {
-      shown = λ sound. omega (arith, signed_arith, parts.0, c.date.ensures, c.time.ensures.second, c.in-Some.ensures.wall, c.naive_utc-utc.ensures.wall, shown g c sound, c.fix.ensures, offset.value, offset.range.west, offset.range.east);
+      shown = λ sound. omega (arith, signed_arith, parts.0, c.date.ensures, c.time.ensures.second, c.in-Some.ensures.wall, c.naive_utc-utc.ensures.wall, shown g c sound, c.fix.ensures, offset.value, offset.bound.west, offset.bound.east);
       in_day = omega (arith, parts.1, c.time.ensures.second);
       nanos_kept = c.time.ensures.nanos ∙ (c.in-Some.ensures.nanos ∙ c.naive_utc-utc.ensures.nanos);
     }
@@ -41,6 +41,6 @@ returns-in-None-clause-outside g c = λ _.
       base,
       record { shown = λ sound. omega (arith, signed_arith, parts.0, hidden g c sound); in_day = parts.1; nanos_kept = refl },
       no_wall_day wall (λ is.
-          let never : false ≡ true = c.in-None.ensures.some.1 (record { first = omega (arith, signed_arith, is.first, c.naive_utc-utc.ensures.wall, c.fix.ensures, offset.value, offset.range.west, offset.range.east); last = omega (arith, signed_arith, is.last, c.naive_utc-utc.ensures.wall, c.fix.ensures, offset.value, offset.range.west, offset.range.east) }) in
+          let never : false ≡ true = c.in-None.ensures.some.1 (record { first = omega (arith, signed_arith, is.first, c.naive_utc-utc.ensures.wall, c.fix.ensures, offset.value, offset.bound.west, offset.bound.east); last = omega (arith, signed_arith, is.last, c.naive_utc-utc.ensures.wall, c.fix.ensures, offset.value, offset.bound.west, offset.bound.east) }) in
           cc),
     )

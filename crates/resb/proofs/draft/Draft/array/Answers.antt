@@ -13,28 +13,28 @@ pub returns-in_err-kept : goal.returns-in_err-kept
 returns-in_err-kept c =
     let n : vec_len c.args.self.now.laying.items ≡ length c.args.self.now.laying.items.items = search rules in
     let m : vec_len c.args.self.now.levels ≡ length c.args.self.now.levels.items = search rules in
-    err_on _ _ _ _ c.from_residual.ensures.1 (array_short c.args.self.now c.args.count _ c.in_err-kept.ensures.refused.0 (λ e. omega (arith, n, c.len.ensures, c.in_err-kept.ensures.refused.1 (omega (arith, e, n, m, c.len.ensures, c.len-2.ensures)))))
+    err_on _ _ _ _ c.from_residual.ensures.1 (array_short c.args.self.now c.args.count _ c.in_err-kept.ensures.err.0 (λ e. omega (arith, n, c.len.ensures, c.in_err-kept.ensures.err.1 (omega (arith, e, n, m, c.len.ensures, c.len-2.ensures)))))
 
 pub returns-in_err-level : goal.returns-in_err-level
 returns-in_err-level c =
     let d = c.args.self.now in
     let n : vec_len d.laying.items ≡ length d.laying.items.items = search rules in
-    let k : c.in_ok-kept.kept + c.args.count ≡ length d.laying.items.items = omega (arith, n, c.len.ensures, c.in_ok-kept.ensures.kept) in
+    let k : c.in_ok-kept.kept + c.args.count ≡ length d.laying.items.items = omega (arith, n, c.len.ensures, c.in_ok-kept.ensures.value) in
     err_on _ _ _ _ c.from_residual-in_err-level.ensures.1 (array_large d c.args.count c.in_ok-kept.kept _ k
-    (λ keys row items count h. parent_deep d keys row items (r.Array items) c.in_ok-kept.kept _ (depth-Array items) h (omega (arith, k, count)) (rw c.as_slice.ensures.value at c.in_err-level.ensures.refused)))
+    (λ keys row items count h. parent_deep d keys row items (r.Array items) c.in_ok-kept.kept _ (depth-Array items) h (omega (arith, k, count)) (rw c.as_slice.ensures.value at c.in_err-level.ensures.err)))
 
 pub returns-in_err-left : goal.returns-in_err-left
 returns-in_err-left c =
     let d = c.args.self.now in
     let n : vec_len d.laying.items ≡ length d.laying.items.items = search rules in
-    err_on _ _ _ _ c.from_residual-in_err-left.ensures.1 (array_large d c.args.count c.in_ok-kept.kept _ (omega (arith, n, c.len.ensures, c.in_ok-kept.ensures.kept))
-    (λ keys row items count h. parent_heavy d keys row items (r.Array items) 0 _ _ (array_weighs items) h (λ words room. (words, room)) c.in_err-left.ensures.refused))
+    err_on _ _ _ _ c.from_residual-in_err-left.ensures.1 (array_large d c.args.count c.in_ok-kept.kept _ (omega (arith, n, c.len.ensures, c.in_ok-kept.ensures.value))
+    (λ keys row items count h. parent_heavy d keys row items (r.Array items) 0 _ _ (array_weighs items) h (λ words room. (words, room)) c.in_err-left.ensures.err))
 
 pub returns-in_err-item : goal.returns-in_err-item
 returns-in_err-item c =
     let d = c.args.self.now in
     let n : vec_len d.laying.items ≡ length d.laying.items.items = search rules in
-    let k : c.in_ok-kept.kept + c.args.count ≡ length d.laying.items.items = omega (arith, n, c.len.ensures, c.in_ok-kept.ensures.kept) in
+    let k : c.in_ok-kept.kept + c.args.count ≡ length d.laying.items.items = omega (arith, n, c.len.ensures, c.in_ok-kept.ensures.value) in
     err_on _ _ _ _ c.from_residual-in_err-item.ensures.1 (array_large d c.args.count c.in_ok-kept.kept _ k
     (λ keys row items count h. parent_long d keys row items (r.Array items) _ _ h (λ fits. fits) (c.in_err-item.ensures.lays (place_of keys) items _ (parent_stands d keys row items c.in_ok-kept.kept h (omega (arith, k, count))))))
 
@@ -50,5 +50,5 @@ returns c =
       h.0,
       rw (c.in_ok-put.ensures.items, c.in_ok-put.ensures.levels, c.in_ok-item.ensures.items, c.truncate.ensures.items)
           (array_more keys row items d.base d.laying.words.items d.laying.items.items d.levels.items d.left d.most c.in_ok-kept.kept c.args.count c.push_array.new.laying.words.items c.in_ok-item.item c.in_ok-level.level c.in_ok-left.left h.1 count
-          (omega (arith, n, c.len.ensures, c.in_ok-kept.ensures.kept)) c.in_ok-item.ensures.lays e c.in_ok-level.ensures.shallow (omega (arith, c.in_ok-left.ensures.rest))),
+          (omega (arith, n, c.len.ensures, c.in_ok-kept.ensures.value)) c.in_ok-item.ensures.lays e c.in_ok-level.ensures.bound (omega (arith, c.in_ok-left.ensures.rest))),
     )

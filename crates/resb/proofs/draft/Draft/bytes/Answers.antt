@@ -14,13 +14,13 @@ use Rattle.resb.proofs.draft.Draft.bytes.Goals as goal
 pub returns-in_err-left : goal.returns-in_err-left
 returns-in_err-left c =
     let v = c.args.bytes.now in
-    err_on _ _ _ _ c.from_residual.ensures.1 (leaf_heavy c.args.self.now (r.Bytes v) (length v) _ (weight-Bytes v) c.in_err-left.ensures.refused)
+    err_on _ _ _ _ c.from_residual.ensures.1 (leaf_heavy c.args.self.now (r.Bytes v) (length v) _ (weight-Bytes v) c.in_err-left.ensures.err)
 
 pub returns-in_err-item : goal.returns-in_err-item
 returns-in_err-item c =
     let d = c.args.self.now in
     let v = c.args.bytes.now in
-    err_on _ _ _ _ c.from_residual-in_err-item.ensures.1 (leaf_long d (r.Bytes v) _ (λ places. refused_still _ _ _ (fits-bytes v places _) c.in_err-item.ensures.refused))
+    err_on _ _ _ _ c.from_residual-in_err-item.ensures.1 (leaf_long d (r.Bytes v) _ (λ places. refused_still _ _ _ (fits-bytes v places _) c.in_err-item.ensures.err))
 
 pub returns-in_err-put : goal.returns-in_err-put
 returns-in_err-put c = err_on _ _ _ _ c.from_residual-in_err-put.ensures.1 (λ keys row h. tt)
@@ -29,7 +29,7 @@ pub returns : goal.returns
 returns c = λ keys row h.
     let d = c.args.self.now in
     let v = c.args.bytes.now in
-    let l = bytes_is_laid v (place_of keys) d.base d.laying.words.items c.lay_bytes.new.out.items c.in_ok-item.item c.in_ok-item.ensures.words c.in_ok-item.ensures.item c.in_ok-item.ensures.fits in
+    let l = bytes_is_laid v (place_of keys) d.base d.laying.words.items c.lay_bytes.new.out.items c.in_ok-item.item c.in_ok-item.ensures.words c.in_ok-item.ensures.item c.in_ok-item.ensures.bound in
     let t : all_below 256 v ≡ true = search (rules, bytes_typed) in (
       h.0,
       rw (c.in_ok-put.ensures.items, c.in_ok-put.ensures.levels)

@@ -12,12 +12,12 @@ use Rattle.resb.proofs.draft.Draft.integer.Goals as goal
 pub returns-in_err-left : goal.returns-in_err-left
 returns-in_err-left c =
     let v = c.args.value in
-    err_on _ _ _ _ c.from_residual.ensures.1 (leaf_heavy c.args.self.now (r.Integer v) 0 _ (omega (arith, weight-Integer v)) c.in_err-left.ensures.refused)
+    err_on _ _ _ _ c.from_residual.ensures.1 (leaf_heavy c.args.self.now (r.Integer v) 0 _ (omega (arith, weight-Integer v)) c.in_err-left.ensures.err)
 
 pub returns-in_err-item : goal.returns-in_err-item
 returns-in_err-item c =
     let v = c.args.value in
-    err_on _ _ _ _ c.from_residual-in_err-item.ensures.1 (leaf_long c.args.self.now (r.Integer v) _ (λ places. refused_still _ _ _ (small_integer v places _) c.in_err-item.ensures.refused))
+    err_on _ _ _ _ c.from_residual-in_err-item.ensures.1 (leaf_long c.args.self.now (r.Integer v) _ (λ places. refused_still _ _ _ (small_integer v places _) c.in_err-item.ensures.err))
 
 pub returns-in_err-put : goal.returns-in_err-put
 returns-in_err-put c = err_on _ _ _ _ c.from_residual-in_err-put.ensures.1 (λ keys row h. tt)
@@ -26,7 +26,7 @@ pub returns : goal.returns
 returns c = λ keys row h.
     let d = c.args.self.now in
     let v = c.args.value in
-    let small : v < 268435456 = c.in_ok-item.ensures.small in
+    let small : v < 268435456 = c.in_ok-item.ensures.bound in
     let l = integer_is_laid v (place_of keys) d.base d.laying.words.items small c.in_ok-left.ensures.room in (
       h.0,
       rw (c.in_ok-put.ensures.items, c.in_ok-put.ensures.levels, c.in_ok-item.ensures.item)

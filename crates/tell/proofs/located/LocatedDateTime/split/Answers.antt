@@ -13,7 +13,7 @@ returns-in-Some-clause-wall g c =
     let parts = wall_parts (wall_of c.in-Some.wall) in
     let east = c.seconds_east.ensures in
     record {
-      shown = λ sound. omega (arith, signed_arith, parts.0, c.date.ensures, c.time.ensures.second, c.in-Some.ensures.wall, east.value sound, east.range.west, east.range.east);
+      shown = λ sound. omega (arith, signed_arith, parts.0, c.date.ensures, c.time.ensures.second, c.in-Some.ensures.wall, east.value sound, east.bound.west, east.bound.east);
       in_day = omega (arith, parts.1, c.time.ensures.second);
       nanos_kept = c.time.ensures.nanos ∙ c.in-Some.ensures.nanos;
     }
@@ -27,6 +27,6 @@ returns-in-None-clause-outside g c = λ _.
       base,
       record { shown = λ sound. omega (arith, signed_arith, parts.0, east.value sound); in_day = parts.1; nanos_kept = refl },
       no_wall_day wall (λ is.
-          let never : false ≡ true = c.in-None.ensures.some.1 (record { first = omega (arith, signed_arith, is.first, east.range.west, east.range.east); last = omega (arith, signed_arith, is.last, east.range.west, east.range.east) }) in
+          let never : false ≡ true = c.in-None.ensures.some.1 (record { first = omega (arith, signed_arith, is.first, east.bound.west, east.bound.east); last = omega (arith, signed_arith, is.last, east.bound.west, east.bound.east) }) in
           cc),
     )

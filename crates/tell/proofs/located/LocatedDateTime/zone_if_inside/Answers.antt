@@ -7,8 +7,8 @@ use Rattle.tell.specs.Inside.LocatedView.{second_in, nanos_in, zone_in}
 use Rattle.tell.proofs.NearWalls.{near_wall, day_inside}
 use Rattle.tell.proofs.located.LocatedDateTime.zone_if_inside.Goals as goal
 
-pub returns-then-self-clause-inside : goal.returns-then-self-clause-inside
-returns-then-self-clause-inside g c = λ _.
+pub returns-then-self-clause-some : goal.returns-then-self-clause-some
+returns-then-self-clause-some g c = λ _.
     let d = c.args.self.now in
     let near = near_wall (second_in d +ℤ g.Tz.TimeZone.off (zone_in d) (second_in d)) in
     let parts = wall_parts near.0 in

@@ -16,14 +16,14 @@ moved : (g : _) (c : After-from_utc_datetime g) → second_nanos (to_z w64 (of_z
 moved g c =
     let fits : FitsSigned w64 c.carried-second.result.0 = search rules in
     let same : to_z w64 (of_z w64 c.carried-second.result.0) ≡ c.carried-second.result.0 = to_z-of_z fits in
-    omega (arith, signed_casts, same, c.carried-second.ensures.whole, c.timestamp.ensures.value, c.timestamp.ensures.range.first, c.timestamp.ensures.range.last, c.num_seconds.ensures.value, c.num_seconds.ensures.range, c.subsec_nanos.ensures.value, c.subsec_nanos.ensures.range)
+    omega (arith, signed_casts, same, c.carried-second.ensures.whole, c.timestamp.ensures.value, c.timestamp.ensures.bound.first, c.timestamp.ensures.bound.last, c.num_seconds.ensures.value, c.num_seconds.ensures.bound, c.subsec_nanos.ensures.value, c.subsec_nanos.ensures.bound)
 
 -- what is carried over is the sum
 left : (g : _) (c : In-None g) → second_nanos (to_z w64 (of_z w64 c.carried-second.result.0)) +ℤ pos c.carried-second.result.1 ≡ nanos_since_epoch c.args.self +ℤ c.args.rhs
 left g c =
     let fits : FitsSigned w64 c.carried-second.result.0 = search rules in
     let same : to_z w64 (of_z w64 c.carried-second.result.0) ≡ c.carried-second.result.0 = to_z-of_z fits in
-    omega (arith, signed_casts, same, c.carried-second.ensures.whole, c.timestamp.ensures.value, c.timestamp.ensures.range.first, c.timestamp.ensures.range.last, c.num_seconds.ensures.value, c.num_seconds.ensures.range, c.subsec_nanos.ensures.value, c.subsec_nanos.ensures.range)
+    omega (arith, signed_casts, same, c.carried-second.ensures.whole, c.timestamp.ensures.value, c.timestamp.ensures.bound.first, c.timestamp.ensures.bound.last, c.num_seconds.ensures.value, c.num_seconds.ensures.bound, c.subsec_nanos.ensures.value, c.subsec_nanos.ensures.bound)
 
 pub returns-in-Some-clause-some : goal.returns-in-Some-clause-some
 returns-in-Some-clause-some g c =
