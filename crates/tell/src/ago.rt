@@ -1,11 +1,12 @@
 //! What replies to the lines of the command `ago`.
-ghost use Rattle.std.specs.Prelude.{◌≡◌, OnOk};
+ghost use Rattle.std.specs.Prelude.{◌≡◌, ◌≤◌, OnOk, length};
 ghost use Rattle.std.specs.String.{string_bytes};
 ghost use Rattle.streams.specs.Whole.{Adds};
 ghost use Rattle.tongues.specs.Any.{any_speech};
 ghost use Rattle.tongues.specs.declared.any.AnyLanguage.{AnyLanguage};
 ghost use Rattle.timeago.specs.Formatters.{settings_of, language_of};
 ghost use Rattle.timeago.specs.Settings.{three_count_settings};
+ghost use Rattle.tell.specs.Fields.{digits_from};
 ghost use Rattle.tell.specs.Ago.{seconds_of, digits_number, IsAgoAnswer};
 
 use crate::fields::without_cr;
@@ -20,21 +21,35 @@ const MOST_DIGITS: usize = 20;
 
 const TOLD_COUNTS: usize = 3;
 
-/// The number that 1 to 20 digits write.
-pub fn number(digits: &[u8]) -> Option<u128>
-    ensures { result ≡ digits_number digits.now }
+/// The number that at most 19 digits write: 64 bits hold it.
+fn short_number(digits: &[u8]) -> Option<u64>
+    requires { length digits.now ≤ 19 }
+    ensures { result ≡ digits_from 0 digits.now }
 {
-    if digits.is_empty() || digits.len() > MOST_DIGITS {
-        return None;
-    }
-    let mut value: u128 = 0;
+    let mut value = 0;
     for digit in digits {
         if !digit.is_ascii_digit() {
             return None;
         }
-        value = 10 * value + u128::from(digit - b'0');
+        value = 10 * value + u64::from(digit - b'0');
     }
     Some(value)
+}
+
+/// The number that 1 to 20 digits write.
+pub fn number(digits: &[u8]) -> Option<u128>
+    ensures { result ≡ digits_number digits.now }
+{
+    let [front @ .., last] = digits else {
+        return None;
+    };
+    if digits.len() < MOST_DIGITS {
+        return Some(u128::from(short_number(digits)?));
+    }
+    if digits.len() > MOST_DIGITS || !last.is_ascii_digit() {
+        return None;
+    }
+    Some(10 * u128::from(short_number(front)?) + u128::from(*last - b'0'))
 }
 
 #[tactic(auto, unfolding(crate::specs::Ago::seconds_of))]
