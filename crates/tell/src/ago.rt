@@ -36,20 +36,35 @@ fn short_number(digits: &[u8]) -> Option<u64>
     Some(value)
 }
 
+/// The number that at most 20 digits write, which 64 bits need not hold.
+fn long_number(digits: &[u8]) -> Option<u128>
+    requires { length digits.now ≤ 20 }
+    ensures { result ≡ digits_from 0 digits.now }
+{
+    let mut value = 0;
+    for digit in digits {
+        if !digit.is_ascii_digit() {
+            return None;
+        }
+        value = 10 * value + u128::from(digit - b'0');
+    }
+    Some(value)
+}
+
 /// The number that 1 to 20 digits write.
 pub fn number(digits: &[u8]) -> Option<u128>
     ensures { result ≡ digits_number digits.now }
 {
-    let [front @ .., last] = digits else {
-        return None;
-    };
-    if digits.len() < MOST_DIGITS {
-        return Some(u128::from(short_number(digits)?));
-    }
-    if digits.len() > MOST_DIGITS || !last.is_ascii_digit() {
+    if digits.is_empty() || digits.len() > MOST_DIGITS {
         return None;
     }
-    Some(10 * u128::from(short_number(front)?) + u128::from(*last - b'0'))
+    if digits.len() == MOST_DIGITS {
+        return long_number(digits);
+    }
+    match short_number(digits) {
+        Some(value) => Some(u128::from(value)),
+        None => None,
+    }
 }
 
 #[tactic(auto, unfolding(crate::specs::Ago::seconds_of))]

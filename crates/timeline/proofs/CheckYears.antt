@@ -2,8 +2,7 @@
 use Rattle.std.proofs.Common.{◌≡◌, ℕ, zero, suc, ◌<◌, true, false, Ok, refl, sym, ap, subst, ◌∙◌, ℤ, pos, ◌+ℤ◌, ◌-ℤ◌, ◌*ℤ◌, ◌≤ℤ◌, cond, arith}
 use Rattle.std.proofs.lemmas.Int.{ints}
 use Rattle.civil.specs.Calendar.{days_in_year, year_start, year_kind, year_second, example_year}
-use Rattle.civil.specs.Inside.LeapDays.{leap_days_to}
-use Rattle.civil.proofs.CalendarLemmas.{year_start-closed, year_start-next}
+use Rattle.civil.proofs.CalendarLemmas.{year_start-next}
 use Rattle.civil.proofs.YearKinds.{same_kind, kind_below, kind_of_example, kind_occurs}
 use Rattle.timeline.specs.declared.fault.ZoneFault.{ZoneFault}
 use Rattle.timeline.specs.declared.fault.ZoneFault.TheVariants.{Parts, Order, Size, Near, Walls, Seam, Before, Year}
@@ -14,8 +13,7 @@ use Rattle.timeline.specs.Timeline.{offset_of}
 use Rattle.timeline.specs.Neighbours.{Step, step, IsNear, IsWalled}
 use Rattle.timeline.specs.Laws.{LiesIn}
 use Rattle.timeline.specs.Inside.LeastFaults.{TellsLeast}
-use Rattle.timeline.specs.Inside.KeptRules.{IsYearOf}
-use Rattle.timeline.specs.Inside.CheckSteps.{walls, example_day, kind_seconds, PairKeeps, YearKeeps, YearsKeep}
+use Rattle.timeline.specs.Inside.CheckSteps.{walls, kind_seconds, PairKeeps, YearKeeps, YearsKeep}
 use Rattle.timeline.proofs.LeastFaults.{Told, tells-same}
 use Rattle.timeline.proofs.CheckLaws.{near-there, near-back, walled-there, walled-back, lies-there, lies-back}
 use Rattle.timeline.proofs.RuleKinds.{first_entry-same, second_entry-same}
@@ -125,26 +123,7 @@ year_told r y a b low high t d e f g h =
 
 -- ---- one year of each kind
 
--- the first day of the example of a kind
-example_start : (k : ℕ) → k < 14 → example_day k ≡ year_start (example_year k)
-unfolding leap_days_to
-example_start zero h = sym (year_start-closed (pos 2001) (pos 2000) refl)
-example_start (suc zero) h = sym (year_start-closed (pos 2002) (pos 2001) refl)
-example_start (suc (suc zero)) h = sym (year_start-closed (pos 2003) (pos 2002) refl)
-example_start (suc (suc (suc zero))) h = sym (year_start-closed (pos 2009) (pos 2008) refl)
-example_start (suc (suc (suc (suc zero)))) h = sym (year_start-closed (pos 2010) (pos 2009) refl)
-example_start (suc (suc (suc (suc (suc zero))))) h = sym (year_start-closed (pos 2005) (pos 2004) refl)
-example_start (suc (suc (suc (suc (suc (suc zero)))))) h = sym (year_start-closed (pos 2006) (pos 2005) refl)
-example_start (suc (suc (suc (suc (suc (suc (suc zero))))))) h = sym (year_start-closed (pos 2024) (pos 2023) refl)
-example_start (suc (suc (suc (suc (suc (suc (suc (suc zero)))))))) h = sym (year_start-closed (pos 2008) (pos 2007) refl)
-example_start (suc (suc (suc (suc (suc (suc (suc (suc (suc zero))))))))) h = sym (year_start-closed (pos 2020) (pos 2019) refl)
-example_start (suc (suc (suc (suc (suc (suc (suc (suc (suc (suc zero)))))))))) h = sym (year_start-closed (pos 2004) (pos 2003) refl)
-example_start (suc (suc (suc (suc (suc (suc (suc (suc (suc (suc (suc zero))))))))))) h = sym (year_start-closed (pos 2016) (pos 2015) refl)
-example_start (suc (suc (suc (suc (suc (suc (suc (suc (suc (suc (suc (suc zero)))))))))))) h = sym (year_start-closed (pos 2000) (pos 1999) refl)
-example_start (suc (suc (suc (suc (suc (suc (suc (suc (suc (suc (suc (suc (suc zero))))))))))))) h = sym (year_start-closed (pos 2012) (pos 2011) refl)
-example_start (suc (suc (suc (suc (suc (suc (suc (suc (suc (suc (suc (suc (suc (suc k)))))))))))))) h = absurd (omega arith)
-
--- and its days, in seconds
+-- the days of the example of a kind, in seconds
 example_seconds : (k : ℕ) → k < 14 → pos 86400 *ℤ pos (days_in_year (example_year k)) ≡ kind_seconds k
 example_seconds zero h = refl
 example_seconds (suc zero) h = refl
@@ -162,17 +141,8 @@ example_seconds (suc (suc (suc (suc (suc (suc (suc (suc (suc (suc (suc (suc zero
 example_seconds (suc (suc (suc (suc (suc (suc (suc (suc (suc (suc (suc (suc (suc zero))))))))))))) h = refl
 example_seconds (suc (suc (suc (suc (suc (suc (suc (suc (suc (suc (suc (suc (suc (suc k)))))))))))))) h = absurd (omega arith)
 
-pub example_by : (k : ℕ) (day : ℤ) → k < 14 → day ≡ example_day k → IsYearOf (example_year k) day k
-example_by k day h e = record { first_day = e ∙ example_start k h; kind = sym (kind_of_example k h) }
-
-pub first_example : (day : ℤ) → day ≡ example_day 0 → IsYearOf (example_year 0) day 0
-first_example day e = example_by 0 day (omega arith) e
-
-pub example_low : (k : ℕ) → k < 14 → pos 86400 *ℤ example_day k ≡ year_second (example_year k)
-example_low k h = ap (λ d. pos 86400 *ℤ d) (example_start k h)
-
-pub example_high : (k : ℕ) → k < 14 → pos 86400 *ℤ example_day k +ℤ kind_seconds k ≡ year_second (example_year k +ℤ pos 1)
-example_high k h = omega (arith, ints, example_start k h, example_seconds k h, year_start-next (example_year k))
+pub example_high : (k : ℕ) → k < 14 → year_second (example_year k) +ℤ kind_seconds k ≡ year_second (example_year k +ℤ pos 1)
+example_high k h = omega (arith, ints, example_seconds k h, year_start-next (example_year k))
 
 -- what holds of the example of each kind holds of all years
 pub years_told : (r : PlainRule) (t : Told) → r.first_year ≤ℤ pos 134217727

@@ -20,7 +20,7 @@ use crate::offset::{Offset, Transition};
 use crate::rule::YearRule;
 use std::sync::ledger::Ledger;
 use steps::Steps;
-use years::{example_day, first_second, seconds_of_kind};
+use years::{example_year, first_second, seconds_of_kind};
 
 mod apart;
 mod years;
@@ -392,9 +392,9 @@ fn year_fault<L: Ledger>(
         → TellsLeast (YearKeeps r (example_year kind)) result }
     ensures ticks { steps.new ≡ steps.old + 1 }
 {
-    let day = example_day(kind);
-    let (before, first, second) = rule.year_at(day, kind, steps);
-    let low = 86_400 * day;
+    let year = example_year(kind);
+    let (before, first, second) = rule.year_at(year, steps);
+    let low = first_second(year);
     let high = low + seconds_of_kind(kind);
     if small && apart::lie_apart(low, first.since, second.since, high) {
         return Ok(());
@@ -459,7 +459,7 @@ fn rule_fault<L: Ledger>(
         return Err(ZoneFault::Size);
     }
     // Any year will do: what holds before the first transition is the same in all.
-    let (before, _, _) = rule.year_at(example_day(0), 0, steps);
+    let (before, _, _) = rule.year_at(example_year(0), steps);
     if !same_offset(last, before) {
         return Err(ZoneFault::Before);
     }

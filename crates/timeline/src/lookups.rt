@@ -15,7 +15,7 @@ use crate::data::ZoneData;
 use crate::dates::ZoneRule;
 use crate::offset::{Offset, PossibleOffset, Transition};
 use crate::rule::YearRule;
-use civil::{days_before_month, days_before_year, year_kind, year_of_day};
+use civil::{days_before_month, days_before_year, year_of_day};
 use std::marker::Brand;
 use std::sync::ledger::{Blank, Ledger};
 use steps::Steps;
@@ -84,7 +84,7 @@ fn year_from<L: Ledger>(
     ensures second { (r : PlainRule) → rule.now ≡ kept_rule r → result.2 ≡ second_entry r year }
 {
     let mut steps = Steps::<L>::new(blank);
-    rule.year_at(days_before_year(year), year_kind(year), &mut steps)
+    rule.year_at(year, &mut steps)
 }
 
 /// The same, where no step is counted.

@@ -1,5 +1,5 @@
 //! The yearly rule of a zone, kept by kinds of year. Only `year_at` tells a year's transitions.
-ghost use Rattle.std.specs.Prelude.{◌≡◌, ◌+◌, ◌<◌, ℤ, pos, negsuc, ◌+ℤ◌, ◌-ℤ◌, ◌*ℤ◌, ◌≤ℤ◌, if◌then◌else◌, not};
+ghost use Rattle.std.specs.Prelude.{◌≡◌, ◌+◌, ◌<◌, ℤ, pos, negsuc, ◌+ℤ◌, ◌-ℤ◌, ◌*ℤ◌, ◌<ℤ◌, ◌≤ℤ◌, if◌then◌else◌, not};
 ghost use Rattle.std.specs.Ordering.{int_eq};
 ghost use Rattle.timeline.specs.Zone.{fits_i32};
 ghost use Rattle.timeline.specs.Zone.{PlainRule};
@@ -8,6 +8,7 @@ ghost use Rattle.timeline.specs.Timeline.{offset_of};
 ghost use Rattle.timeline.specs.Inside.KeptRules.{KeptRule, kept_rule, kind_second, taken_off, kept_start, kept_end, IsYearOf};
 
 use crate::offset::{Offset, Transition, UtcOffset};
+use civil::{days_before_year, year_kind};
 use std::marker::Model;
 use std::sync::ledger::Ledger;
 use steps::Steps;
@@ -254,15 +255,27 @@ impl YearRule {
         transition(self.end.second(sum, raw, day, kind), raw, false)
     }
 
-    /// The offset before a year's first transition, and the year's two transitions, by its first day
-    /// and its kind. Takes one step.
+    /// The offset before a year's first transition, and the year's two transitions. Takes one step.
     #[inline]
     pub fn year_at<L: Ledger>(
         &self,
-        day: i64,
-        kind: u8,
+        year: i32,
         steps: &mut Steps<L>,
     ) -> (Offset, Transition, Transition)
+        requires { year <ℤ pos 2147483647 }
+        ensures before { (r : PlainRule) → self.now ≡ kept_rule r
+            → result.0 ≡ offset_of (second_entry r year) }
+        ensures first { (r : PlainRule) → self.now ≡ kept_rule r → result.1 ≡ first_entry r year }
+        ensures second { (r : PlainRule) → self.now ≡ kept_rule r → result.2 ≡ second_entry r year }
+        ensures ticks { steps.new ≡ steps.old + 1 }
+    {
+        steps.tick();
+        self.year_of(days_before_year(year), year_kind(year))
+    }
+
+    /// The same of the year that begins on a day and is of a kind.
+    #[inline]
+    fn year_of(&self, day: i64, kind: u8) -> (Offset, Transition, Transition)
         requires kind { kind < 14 }
         requires low { negsuc 799999999999 ≤ℤ day }
         requires high { day ≤ℤ pos 800000000000 }
@@ -272,9 +285,7 @@ impl YearRule {
             → result.1 ≡ first_entry r y }
         ensures second { (r : PlainRule) (y : ℤ) → self.now ≡ kept_rule r → IsYearOf y day kind
             → result.2 ≡ second_entry r y }
-        ensures ticks { steps.new ≡ steps.old + 1 }
     {
-        steps.tick();
         in_order(
             self.start_is_first,
             self.start_in(day, kind),

@@ -100,10 +100,6 @@ pub record IsPassed (z : PlainZone) (limit : Option ℤ) (n : ℕ) (p : Passed) 
 
 -- ---- the rule
 
--- the first day of the example of a year of this kind
-abbrev pub example_day : ℕ → ℤ
-example_day k = pos (slice_index (11323 ∷ 11688 ∷ 12053 ∷ 14245 ∷ 14610 ∷ 12784 ∷ 13149 ∷ 19723 ∷ 13879 ∷ 18262 ∷ 12418 ∷ 16801 ∷ 10957 ∷ 15340 ∷ []) k)
-
 -- the seconds of a year of this kind: those from 7 on are leap years
 abbrev pub kind_seconds : ℕ → ℤ
 kind_seconds k = if nat_lt k 7 then pos 31536000 else pos 31622400

@@ -73,8 +73,8 @@ pub fn shows_laws(zone: &ZoneData, n: usize, previous: i64, second: i64, end: i6
 /// Whether two transitions of a year, with its first second and that of the next year, lie a day or
 /// more from its ends and two days or more from each other. Some that do not keep the laws too.
 pub fn lie_apart(low: i64, first: i64, second: i64, high: i64) -> bool
-    requires low { low <ℤ pos 1000000000000 }
-    requires high { negsuc 1000000000000 <ℤ high }
+    requires low { low <ℤ pos 100000000000000000 }
+    requires high { negsuc 100000000000000000 <ℤ high }
     ensures { IsTrue result → LieApart low first second high }
 {
     lies_between(low + 86_400, first, high - 259_200)

@@ -1,11 +1,10 @@
-use Rattle.std.proofs.Common.{◌≡◌, ◌+ℤ◌, true, false, IsTrue, to_z-of_z, FitsSigned, w32, w64, sym, ap, ◌∙◌, rules}
-use Rattle.civil.specs.Calendar.{example_year}
+use Rattle.std.proofs.Common.{◌≡◌, ◌+ℤ◌, true, false, IsTrue, to_z-of_z, FitsSigned, w32, sym, ap, ◌∙◌, rules}
 use Rattle.timeline.specs.Inside.KeptRules.{KeptRule, kept_rule}
 use Rattle.timeline.specs.Inside.CheckSteps.{RuleKeeps}
 use Rattle.timeline.proofs.KeptRules.{kept-raw, kept-extra}
 use Rattle.timeline.proofs.LeastFaults.{size_broken, before_broken, all_kept}
 use Rattle.timeline.proofs.CheckLaws.{small_moved}
-use Rattle.timeline.proofs.CheckYears.{before_same, first_example}
+use Rattle.timeline.proofs.CheckYears.{before_same}
 use Rattle.timeline.proofs.check.rule_fault.Goals as goal
 
 pub returns-then-not-are_small-clause-value : goal.returns-then-not-are_small-clause-value
@@ -24,10 +23,9 @@ returns-then-not-same_offset-clause-value g c = λ r is.
     let sum = c.offsets-raw.ensures.sum ∙ ap (λ (k : KeptRule). k.raw +ℤ k.extra) is ∙ ap (λ x. x +ℤ (kept_rule r).extra) (kept-raw r) ∙ ap (λ x. r.raw +ℤ x) (kept-extra r) in
     let raw_fits : FitsSigned w32 c.offsets-raw.result.0 = search rules in
     let sum_fits : FitsSigned w32 c.offsets-raw.result.1 = search rules in
-    let day_fits : FitsSigned w64 c.example_day.result = search rules in
     let small = c.are_small.ensures.0 c.if-not-are_small.false in
     before_broken (RuleKeeps r c.args.last) tt tt (small_moved _ _ (to_z-of_z raw_fits ∙ raw) small.0, small_moved _ _ (to_z-of_z sum_fits ∙ sum) small.1) tt tt tt (λ e.
-    let yes : IsTrue c.same_offset.result = c.same_offset.ensures.1 (e ∙ before_same r r.first_year (example_year 0) ∙ sym (c.year_at-before.ensures.before r (example_year 0) is (first_example _ (to_z-of_z day_fits ∙ c.example_day.ensures.value)))) in
+    let yes : IsTrue c.same_offset.result = c.same_offset.ensures.1 (e ∙ before_same r _ _ ∙ sym (c.year_at-before.ensures.before r is)) in
     let apart : true ≡ false = sym yes ∙ c.if-not-same_offset.true in
     cc)
 
@@ -37,7 +35,6 @@ returns-clause-value g c = λ r is.
     let sum = c.offsets-raw.ensures.sum ∙ ap (λ (k : KeptRule). k.raw +ℤ k.extra) is ∙ ap (λ x. x +ℤ (kept_rule r).extra) (kept-raw r) ∙ ap (λ x. r.raw +ℤ x) (kept-extra r) in
     let raw_fits : FitsSigned w32 c.offsets-raw.result.0 = search rules in
     let sum_fits : FitsSigned w32 c.offsets-raw.result.1 = search rules in
-    let day_fits : FitsSigned w64 c.example_day.result = search rules in
     let small = c.are_small.ensures.0 c.if-not-are_small.false in
     all_kept (RuleKeeps r c.args.last) tt tt (small_moved _ _ (to_z-of_z raw_fits ∙ raw) small.0, small_moved _ _ (to_z-of_z sum_fits ∙ sum) small.1) tt tt tt
-    (c.same_offset.ensures.0 c.if-not-same_offset.false ∙ c.year_at-before.ensures.before r (example_year 0) is (first_example _ (to_z-of_z day_fits ∙ c.example_day.ensures.value)) ∙ before_same r (example_year 0) r.first_year) tt
+    (c.same_offset.ensures.0 c.if-not-same_offset.false ∙ c.year_at-before.ensures.before r is ∙ before_same r _ _) tt

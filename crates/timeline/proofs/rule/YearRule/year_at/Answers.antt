@@ -1,23 +1,26 @@
-use Rattle.std.proofs.Common.{◌≡◌, ℤ, to_z, of_z, to_z-of_z, w64, ap, ◌∙◌}
-use Rattle.timeline.specs.Timeline.{offset_of}
-use Rattle.timeline.specs.Zone.{PlainRule}
-use Rattle.timeline.specs.Inside.KeptRules.{KeptRule, kept_rule, IsYearOf}
-use Rattle.timeline.proofs.KeptRules.{InOrder, in_order}
-use Rattle.timeline.proofs.rule.YearRule.year_at.Given.{Over}
+use Rattle.std.proofs.Common.{◌≡◌, ℕ, ℤ, to_z, of_z, to_z-of_z, FitsSigned, w32, w64, ap, ◌∙◌, rules}
+use Rattle.civil.specs.Calendar.{year_start, year_kind}
+use Rattle.timeline.specs.Inside.KeptRules.{IsYearOf}
 use Rattle.timeline.proofs.rule.YearRule.year_at.Goals as goal
-use Rattle.timeline.proofs.rule.YearRule.year_at.Goals.{After-in_order}
 
--- the two transitions are those of the rule that is kept
-told : (g : Over) (c : After-in_order g) (r : PlainRule) (y : ℤ) → c.args.self.now ≡ kept_rule r → IsYearOf y c.args.day c.args.kind → InOrder r y c.self.inside.start_is_first c.start_in.result c.end_in.result
-told g c r y is of =
-    let day : to_z w64 (of_z w64 c.args.day) ≡ c.args.day = to_z-of_z c.ranges.day in
-    in_order r c.args.self.now y _ _ _ _ _ is (day ∙ of.first_day) of.kind (ap (λ (k : KeptRule). k.start_is_first) c.self.view_is) c.start_in.ensures c.end_in.ensures
+-- the day and the kind are those of the year
+of_year : (y a day : ℤ) (k : ℕ) → a ≡ y → day ≡ year_start a → k ≡ year_kind a → IsYearOf y day k
+of_year y a day k e d f = record { first_day = d ∙ ap year_start e; kind = f ∙ ap year_kind e }
 
 pub returns-clause-before : goal.returns-clause-before
-returns-clause-before g c = λ r y is of. c.in_order.ensures.before ∙ ap offset_of (told g c r y is of).second_is
+returns-clause-before g c = λ r is.
+    let year : to_z w32 (of_z w32 c.args.year) ≡ c.args.year = to_z-of_z c.ranges.year in
+    let fits : FitsSigned w64 c.days_before_year.result = search rules in
+    c.year_of.ensures.before r c.args.year is (of_year _ _ _ _ year (to_z-of_z fits ∙ c.days_before_year.ensures.value) c.year_kind.ensures.value)
 
 pub returns-clause-first : goal.returns-clause-first
-returns-clause-first g c = λ r y is of. c.in_order.ensures.first ∙ (told g c r y is of).first_is
+returns-clause-first g c = λ r is.
+    let year : to_z w32 (of_z w32 c.args.year) ≡ c.args.year = to_z-of_z c.ranges.year in
+    let fits : FitsSigned w64 c.days_before_year.result = search rules in
+    c.year_of.ensures.first r c.args.year is (of_year _ _ _ _ year (to_z-of_z fits ∙ c.days_before_year.ensures.value) c.year_kind.ensures.value)
 
 pub returns-clause-second : goal.returns-clause-second
-returns-clause-second g c = λ r y is of. c.in_order.ensures.second ∙ (told g c r y is of).second_is
+returns-clause-second g c = λ r is.
+    let year : to_z w32 (of_z w32 c.args.year) ≡ c.args.year = to_z-of_z c.ranges.year in
+    let fits : FitsSigned w64 c.days_before_year.result = search rules in
+    c.year_of.ensures.second r c.args.year is (of_year _ _ _ _ year (to_z-of_z fits ∙ c.days_before_year.ensures.value) c.year_kind.ensures.value)
