@@ -11,7 +11,7 @@ trap 'rm -rf "$work"' EXIT
 trap 'exit 1' HUP INT TERM
 program=$top/crates/saywhen/out/saywhen
 # wanted at most for the bundle of ICU; 20,000 zones may take 20 times that
-most=6000000
+most=3500000
 failed=0
 
 "$top/saywhen" at en "$top/crates/saywhen/data/plus2.res" </dev/null || exit 1
