@@ -256,7 +256,7 @@ impl YearRule {
     }
 
     /// The offset before a year's first transition, and the year's two transitions. Takes one step.
-    #[inline]
+    #[inline(always)]
     pub fn year_at<L: Ledger>(
         &self,
         year: i32,
@@ -274,7 +274,7 @@ impl YearRule {
     }
 
     /// The same of the year that begins on a day and is of a kind.
-    #[inline]
+    #[inline(always)]
     fn year_of(&self, day: i64, kind: u8) -> (Offset, Transition, Transition)
         requires kind { kind < 14 }
         requires low { negsuc 799999999999 ≤ℤ day }
