@@ -5,7 +5,7 @@ use Rattle.std.proofs.lemmas.Bool.Decides.{nat_tests}
 use Rattle.civil.specs.Calendar.{is_leap_year, year_start}
 use Rattle.civil.specs.CivilDates.{HoldsDay}
 use Rattle.civil.specs.Inside.LeapDays.{leap_days_to}
-use Rattle.civil.proofs.SignedLemmas.{signed_arith}
+use Rattle.jiff_core.proofs.SignedLemmas.{signed_arith}
 use Rattle.civil.proofs.CalendarLemmas.{year_start-closed}
 
 -- ---- 400 years

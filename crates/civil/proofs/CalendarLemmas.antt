@@ -6,7 +6,7 @@ use Rattle.civil.specs.Calendar.{is_leap_year, days_in_year, days_in_month, days
 use Rattle.civil.specs.CivilDates.{HoldsDay, IsDate, IsDay}
 use Rattle.civil.specs.Inside.LeapDays.{leap_days_to}
 use Rattle.civil.specs.Laws.{CountsYears}
-use Rattle.civil.proofs.SignedLemmas.{signed_arith, one_part}
+use Rattle.jiff_core.proofs.SignedLemmas.{signed_arith, one_part}
 use borrow.Author.Differences.{up, down}
 
 -- 1 for a leap year, and else 0

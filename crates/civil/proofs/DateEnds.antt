@@ -1,7 +1,7 @@
 -- The day numbers of the first and the last date.
 use Rattle.std.proofs.Common.{◌≡◌, arith, pos, negsuc}
 use Rattle.civil.specs.Calendar.{days_of_months, day_of}
-use Rattle.civil.proofs.SignedLemmas.{signed_arith}
+use Rattle.jiff_core.proofs.SignedLemmas.{signed_arith}
 use Rattle.civil.proofs.CalendarLemmas.{day_of-is, first_start, last_start, year_start-next}
 
 -- -262143-01-01

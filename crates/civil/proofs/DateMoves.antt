@@ -6,7 +6,7 @@ use Rattle.std.proofs.lemmas.Grind.{common_steps}
 use Rattle.civil.specs.Calendar.{days_in_month, days_in_year, days_of_months, day_of}
 use Rattle.civil.specs.CivilDates.{HoldsDay, IsDate, IsDay, IsDateOf}
 use Rattle.civil.specs.Months.{months_on, moved_year, moved_month}
-use Rattle.civil.proofs.SignedLemmas.{signed_arith}
+use Rattle.jiff_core.proofs.SignedLemmas.{signed_arith}
 use Rattle.civil.proofs.CalendarLemmas.{day_of-is, months_within, starts_in_order, year_start-next, in_calendar}
 use Rattle.civil.proofs.DateOfDay.{year_in_calendar}
 use Rattle.civil.proofs.DateOrder.{date_once, month_before}

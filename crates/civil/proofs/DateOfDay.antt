@@ -4,7 +4,7 @@ use Rattle.std.proofs.lemmas.Bool.{cases_lt}
 use Rattle.std.proofs.lemmas.Int.{by_lt_z}
 use Rattle.civil.specs.Calendar.{days_in_year, days_of_months, year_start, day_of}
 use Rattle.civil.specs.CivilDates.{HoldsDay, IsDate, IsDay, IsDateOf}
-use Rattle.civil.proofs.SignedLemmas.{signed_arith, one_part}
+use Rattle.jiff_core.proofs.SignedLemmas.{signed_arith, one_part}
 use Rattle.civil.proofs.CalendarLemmas.{year_of_months, day_of-is, first_start, last_start, year_start-next, starts_in_order, days_in_year_bound}
 
 -- a year that holds the day

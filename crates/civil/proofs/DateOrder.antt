@@ -5,7 +5,7 @@ use Rattle.civil.specs.CivilDates.{IsDate, IsDateOf}
 use Rattle.std.proofs.lemmas.Bool.{cases_lt}
 use Rattle.std.proofs.lemmas.Int.{by_lt_z}
 use Rattle.civil.specs.Laws.{IsEarlier}
-use Rattle.civil.proofs.SignedLemmas.{signed_arith}
+use Rattle.jiff_core.proofs.SignedLemmas.{signed_arith}
 use Rattle.civil.proofs.CalendarLemmas.{day_of-is, day_within, starts_in_order, year_start-next}
 
 -- k more months have at least as many days

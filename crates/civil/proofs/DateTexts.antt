@@ -7,7 +7,7 @@ use Rattle.std.proofs.lemmas.Int.{by_lt_z}
 use Rattle.civil.specs.Calendar.{days_in_month, days_of_months, year_start}
 use Rattle.civil.specs.CivilDates.{HoldsDay, IsDateOf}
 use Rattle.civil.specs.Dates.{last_year, year_on, last_month, month_on, day_on, days_before, date_text, ymd_text, year_sign, two_digits, four_digits}
-use Rattle.civil.proofs.SignedLemmas.{signed_arith, one_part}
+use Rattle.jiff_core.proofs.SignedLemmas.{signed_arith, one_part}
 use Rattle.civil.proofs.CalendarLemmas.{day_of-is, day_within, starts_in_order, year_start-closed, year_start-next}
 use Rattle.civil.proofs.CalendarCycle.{leap_cycle}
 use Rattle.civil.proofs.DateOrder.{month_before}

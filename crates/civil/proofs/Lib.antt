@@ -1,5 +1,4 @@
 pub mod YearsBetween
-pub mod SignedLemmas
 pub mod CalendarLemmas
 pub mod CalendarCycle
 pub mod YearKinds

@@ -4,7 +4,7 @@ use Rattle.std.proofs.lemmas.Int.{by_lt_z}
 use Rattle.civil.specs.Calendar.{year_start, day_of}
 use Rattle.civil.specs.CivilDates.{HoldsDay, IsDate, IsDateOf, IsDay}
 use Rattle.civil.specs.Ordinals.{IsOrdinal, IsOrdinalOf, ordinal_day}
-use Rattle.civil.proofs.SignedLemmas.{signed_arith}
+use Rattle.jiff_core.proofs.SignedLemmas.{signed_arith}
 use Rattle.civil.proofs.CalendarLemmas.{starts_in_order, year_start-next, first_start, last_start}
 
 pub record IsAnswer (r : Option ℤ) (y : ℤ) (m d : ℕ) : Type 0 where

@@ -2,7 +2,7 @@
 use Rattle.std.proofs.Common.{◌≡◌, ℕ, ◌<◌, ℤ, pos, ◌+ℤ◌, ◌*ℤ◌, arith}
 use Rattle.civil.specs.Clock.{IsWallSecond, wall_day, wall_clock}
 use Rattle.civil.specs.CivilDates.{IsDay}
-use Rattle.civil.proofs.SignedLemmas.{signed_arith, int_rem_euclid-parts}
+use Rattle.jiff_core.proofs.SignedLemmas.{signed_arith, int_rem_euclid-parts}
 
 pub wall_parts : (w : ℤ) → (pos 86400 *ℤ wall_day w +ℤ pos (wall_clock w) ≡ w) × (wall_clock w < 86400)
 unfolding wall_day wall_clock

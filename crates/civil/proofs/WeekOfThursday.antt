@@ -3,7 +3,7 @@ use Rattle.std.proofs.Common.{◌≡◌, ℕ, ◌+◌, ◌/◌, arith, ℤ, pos,
 use Rattle.civil.specs.Calendar.{year_start, thursday_of}
 use Rattle.civil.specs.CivilDates.{HoldsDay}
 use Rattle.civil.specs.Weeks.{IsWeekOf}
-use Rattle.civil.proofs.SignedLemmas.{signed_arith}
+use Rattle.jiff_core.proofs.SignedLemmas.{signed_arith}
 
 pub week_by_ordinal : (day y t : ℤ) (n : ℕ) → t ≡ thursday_of day → HoldsDay y t → t ≡ year_start y +ℤ pos n → IsWeekOf day y (n / 7 + 1)
 week_by_ordinal day y t n e holds ordinal = record {

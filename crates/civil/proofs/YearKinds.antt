@@ -3,7 +3,7 @@ use Rattle.std.proofs.Common.{◌≡◌, ℕ, zero, suc, ◌+◌, ◌*◌, ◌<�
 use Rattle.std.specs.Int.{int_div_euclid}
 use Rattle.civil.specs.Calendar.{is_leap_year, days_in_month, year_start, days_of_months, weekday_of, year_kind, example_year}
 use Rattle.civil.specs.Inside.LeapDays.{leap_days_to}
-use Rattle.civil.proofs.SignedLemmas.{signed_arith, one_part, int_rem_euclid-parts}
+use Rattle.jiff_core.proofs.SignedLemmas.{signed_arith, one_part, int_rem_euclid-parts}
 use Rattle.civil.proofs.CalendarLemmas.{year_start-closed}
 use Rattle.civil.proofs.CalendarCycle.{year_start-400, is_leap_year-400}
 

@@ -6,7 +6,7 @@ use Rattle.civil.specs.Months.{moved_year, moved_month, months_on}
 use Rattle.civil.specs.Calendar.{days_in_month, days_in_year, year_start, day_of}
 use Rattle.civil.specs.Inside.LeapDays.{leap_days_to}
 use Rattle.civil.specs.Calendar.{days_of_months as months_before}
-use Rattle.civil.proofs.SignedLemmas.{signed_arith, one_part, int_rem_euclid-parts}
+use Rattle.jiff_core.proofs.SignedLemmas.{signed_arith, one_part, int_rem_euclid-parts}
 use Rattle.civil.proofs.DateMoves.{month_has_days}
 use Rattle.civil.proofs.CalendarLemmas.{day_of-is, year_start-closed, year_start-next, starts_in_order, months_within}
 use Rattle.civil.proofs.CalendarLemmas.{days_of_months_table as months_table}

@@ -1,6 +1,6 @@
 -- Instants of `jiff` as seconds with their nanoseconds.
 use Rattle.std.proofs.Common.{◌≡◌, ℕ, ◌<◌, Some, None, ℤ, pos, ◌+ℤ◌, ◌-ℤ◌, ◌*ℤ◌, refl, sym, ap, ◌∙◌, arith}
-use Rattle.civil.proofs.SignedLemmas.{signed_arith, int_rem_euclid-parts}
+use Rattle.jiff_core.proofs.SignedLemmas.{signed_arith, int_rem_euclid-parts}
 use Rattle.jiff_core.specs.Date.{epoch_day}
 use Rattle.jiff_core.specs.DateTime.{civil_nanos, civil_seconds}
 use Rattle.jiff_core.specs.Time.{time_seconds}

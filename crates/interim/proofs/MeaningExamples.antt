@@ -3,7 +3,7 @@ use Rattle.std.proofs.Common.{◌≡◌, ℕ, Option, Some, None, ℤ, pos, ◌+
 use Rattle.std.specs.Prelude.{option_and_then}
 use Rattle.std.specs.Ordering.{int_cmp}
 use Rattle.civil.specs.Calendar.{weekday_of}
-use Rattle.civil.proofs.SignedLemmas.{signed_arith}
+use Rattle.jiff_core.proofs.SignedLemmas.{signed_arith}
 use Rattle.civil.proofs.YearKinds.{weekday_of-is}
 use Rattle.interim.specs.declared.types.DateSpec.TheVariants.{Relative, FromName}
 use Rattle.interim.specs.declared.types.ByName.TheVariants as by_name

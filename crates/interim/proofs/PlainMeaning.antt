@@ -4,7 +4,7 @@ use Rattle.std.specs.Prelude.{option_and_then, MatchResult}
 use Rattle.civil.specs.Calendar.{day_of}
 use Rattle.civil.specs.CivilDates.{IsDate, IsDay}
 use Rattle.civil.specs.Clock.{IsWallSecond, clock_second}
-use Rattle.civil.proofs.SignedLemmas.{signed_arith}
+use Rattle.jiff_core.proofs.SignedLemmas.{signed_arith}
 use Rattle.civil.proofs.CalendarLemmas.{day_of-is, day_within, days_in_year_bound, in_calendar, leap_days_bound, starts_in_order, year_start-closed}
 use Rattle.civil.proofs.WallParts.{wall_day-in, wall_once}
 use Rattle.zoned.specs.Placing.{IsPlaced}

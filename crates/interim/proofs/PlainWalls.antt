@@ -4,7 +4,7 @@ use Rattle.std.specs.Prelude.{MatchResult}
 use Rattle.civil.specs.Calendar.{day_of, wall_second}
 use Rattle.civil.specs.CivilDates.{IsDate, IsDay}
 use Rattle.civil.specs.Clock.{IsWallSecond}
-use Rattle.civil.proofs.SignedLemmas.{signed_arith}
+use Rattle.jiff_core.proofs.SignedLemmas.{signed_arith}
 use Rattle.civil.proofs.CalendarLemmas.{day_of-is, day_within, leap_days_bound, starts_in_order, year_start-closed}
 use Rattle.interim.specs.declared.errors.DateError.{DateError}
 use Rattle.interim.specs.declared.types.DateSpec.TheVariants.{Absolute}

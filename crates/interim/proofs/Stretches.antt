@@ -5,7 +5,7 @@ use Rattle.std.proofs.lemmas.Bool.{le-leb, lt-ltb, leb-true, ltb-true}
 use Rattle.civil.specs.Calendar.{days_in_month, day_of}
 use Rattle.civil.specs.CivilDates.{IsDate, IsDay, IsDateOf}
 use Rattle.civil.specs.Clock.{IsClock, IsWallSecond, clock_second, wall_day}
-use Rattle.civil.proofs.SignedLemmas.{signed_arith}
+use Rattle.jiff_core.proofs.SignedLemmas.{signed_arith}
 use Rattle.civil.proofs.CalendarLemmas.{in_calendar}
 use Rattle.civil.proofs.DateMoves.{IsMonthDay, date_inside}
 use Rattle.civil.proofs.WallParts.{wall_parts}

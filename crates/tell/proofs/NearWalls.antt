@@ -1,7 +1,7 @@
 -- A wall second of the calendar that is the sought one, where that is of the calendar.
 use Rattle.std.proofs.Common.{◌≡◌, inl, inr, true, false, ℤ, pos, refl, sym, ◌∙◌, arith}
 use Rattle.civil.specs.Clock.{IsWallSecond, wall_day}
-use Rattle.civil.proofs.SignedLemmas.{signed_arith}
+use Rattle.jiff_core.proofs.SignedLemmas.{signed_arith}
 use Rattle.civil.proofs.WallParts.{wall_parts}
 use Rattle.interim.specs.Refusal.{is_within, civil_days, civil_seconds}
 use Rattle.interim.proofs.Stretches.{is_within-of, is_within-tells, test_cases}

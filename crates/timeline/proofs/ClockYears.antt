@@ -4,7 +4,7 @@ use Rattle.std.proofs.lemmas.Int.{ints}
 use Rattle.std.specs.Int.{int_div_euclid}
 use Rattle.civil.specs.Calendar.{year_start}
 use Rattle.civil.specs.CivilDates.{HoldsDay}
-use Rattle.civil.proofs.SignedLemmas.{int_div_euclid-parts}
+use Rattle.jiff_core.proofs.SignedLemmas.{int_div_euclid-parts}
 use Rattle.civil.proofs.CalendarLemmas.{counts_years, starts_in_order}
 use Rattle.timeline.specs.WallPromises.{IsOfYear}
 use Rattle.timeline.specs.Inside.YearEntries.{IsNearestYear, inside, before, after}

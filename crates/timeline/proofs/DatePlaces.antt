@@ -7,7 +7,7 @@ use Rattle.std.proofs.lemmas.Int.{ints}
 use Rattle.std.proofs.lemmas.Bool.Decides.{nat_tests, Decides-int_eq}
 use Rattle.civil.specs.Calendar.{is_leap_year, year_start, days_of_months, weekday_of, year_kind, example_year}
 use Rattle.civil.proofs.YearKinds.{weekday_of-parts, weekday_of-is, year_kind-is, days_of_months-leap}
-use Rattle.civil.proofs.SignedLemmas.{signed_arith, one_part}
+use Rattle.jiff_core.proofs.SignedLemmas.{signed_arith, one_part}
 use Rattle.timeline.specs.Zone.{DateRule}
 use Rattle.timeline.specs.RuleDays.{code_weekday, anchor, first_on, last_on, rule_date}
 use Rattle.timeline.specs.Kinds.{place_in_kind}

@@ -4,7 +4,7 @@ use Rattle.std.specs.Prelude.{unsigned_abs}
 use Rattle.std.proofs.lemmas.Int.{ints}
 use Rattle.civil.specs.Calendar.{weekday_of}
 use Rattle.civil.proofs.YearKinds.{weekday_of-parts}
-use Rattle.civil.proofs.SignedLemmas.{signed_arith, one_part}
+use Rattle.jiff_core.proofs.SignedLemmas.{signed_arith, one_part}
 use Rattle.timeline.specs.RuleDays.{first_on, last_on}
 use Rattle.timeline.specs.RulePromises.{IsFirstFrom, IsLastTo}
 use Rattle.timeline.proofs.DatePlaces.{first_on-is, last_on-is, later_weekday}

@@ -4,7 +4,7 @@ use Rattle.resb_tree.specs.Bodies.{◌>>=◌}
 use Rattle.std.proofs.lemmas.Bool.Decides.{nat_tests}
 use Rattle.std.specs.Prelude.{unsigned_abs, int_le, int_lt, nat_le, ◌&&◌}
 use Rattle.std.specs.Ordering.{int_eq}
-use Rattle.civil.proofs.SignedLemmas.{signed_arith, one_part}
+use Rattle.jiff_core.proofs.SignedLemmas.{signed_arith, one_part}
 use Rattle.zoneinfo64.specs.RuleDates.{between, longest_month, is_rule_day, as_i32, is_date, date_from, date_rule}
 use Rattle.zoneinfo64.specs.RuleFields.{raw_rule}
 use Rattle.timeline.specs.Zone.{DateRule, RawRule}

@@ -1,5 +1,5 @@
 use Rattle.std.proofs.Common.{arith}
-use Rattle.civil.proofs.SignedLemmas.{signed_casts, int_rem_euclid-parts, bits_of_nonnegative}
+use Rattle.jiff_core.proofs.SignedLemmas.{signed_casts, int_rem_euclid-parts, bits_of_nonnegative}
 use Rattle.civil.proofs.calendar.cycles.Goals as goal
 
 pub returns-clause-parts : goal.returns-clause-parts

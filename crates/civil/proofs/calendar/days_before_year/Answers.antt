@@ -1,5 +1,5 @@
 use Rattle.std.proofs.Common.{arith, to_z, of_z, w32, w64, ◌-ℤ◌, pos}
-use Rattle.civil.proofs.SignedLemmas.{signed_arith}
+use Rattle.jiff_core.proofs.SignedLemmas.{signed_arith}
 use Rattle.civil.proofs.CalendarLemmas.{year_start-closed, leap_days_bound}
 use Rattle.civil.proofs.calendar.days_before_year.Goals as goal
 

@@ -1,7 +1,7 @@
 use Rattle.std.proofs.Common.{◌≡◌, true, false, pos, to_z, of_z, to_z-of_z, w32, sym, ap, ◌∙◌, arith}
 use Rattle.std.specs.Int.{int_rem_euclid}
 use Rattle.civil.specs.Calendar.{is_leap_year, year_start, weekday_of}
-use Rattle.civil.proofs.SignedLemmas.{signed_arith}
+use Rattle.jiff_core.proofs.SignedLemmas.{signed_arith}
 use Rattle.civil.proofs.YearKinds.{code_kind}
 use Rattle.civil.proofs.calendar.year_kind.Goals as goal
 use Rattle.civil.proofs.calendar.year_kind.Goals.{After-days_before_year, Then-is_leap}

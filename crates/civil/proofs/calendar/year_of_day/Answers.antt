@@ -1,6 +1,6 @@
 use Rattle.std.proofs.Common.{◌≡◌, refl, ℤ, to_z, of_z, w32, w64, subst, arith}
 use Rattle.civil.specs.CivilDates.{HoldsDay}
-use Rattle.civil.proofs.SignedLemmas.{signed_arith}
+use Rattle.jiff_core.proofs.SignedLemmas.{signed_arith}
 use Rattle.civil.proofs.CalendarLemmas.{first_start_i32, last_start_i32, year_of_32_bits}
 use Rattle.civil.proofs.calendar.year_of_day.Goals as goal
 use Rattle.civil.proofs.calendar.year_of_day.Goals.{After-year_near, then-day-lt-FIRST_DAY-via-then-day-lt-FIRST_DAY, then-day-lt-FIRST_DAY-via-else-day-lt-FIRST_DAY+then-day-gt-LAST_DAY}

@@ -2,7 +2,7 @@ use Rattle.std.proofs.Common.{◌≡◌, ◌↔◌, ℤ, ◌+ℤ◌, ◌-◌, Is
 use Rattle.civil.specs.Calendar.{year_start, days_in_year}
 use Rattle.civil.specs.CivilDates.{IsDay}
 use Rattle.civil.specs.Ordinals.{IsOrdinal, ordinal_day}
-use Rattle.civil.proofs.SignedLemmas.{signed_casts}
+use Rattle.jiff_core.proofs.SignedLemmas.{signed_casts}
 use Rattle.civil.proofs.Setters.{ordinal_day-is, ordinal_inside}
 use Rattle.civil.proofs.date.date_of_ordinal.Goals as goal
 use Rattle.civil.proofs.date.date_of_ordinal.Goals.{After-from_day}

@@ -1,6 +1,6 @@
 use Rattle.std.proofs.Common.{◌≡◌, ℤ, ◌-ℤ◌, to_z, of_z, to_z-of_z, w64, ap, ◌∙◌, arith}
 use Rattle.civil.specs.Calendar.{year_start}
-use Rattle.civil.proofs.SignedLemmas.{signed_casts, one_part}
+use Rattle.jiff_core.proofs.SignedLemmas.{signed_casts, one_part}
 use Rattle.civil.proofs.DateOfDay.{ordinal_in}
 use Rattle.civil.proofs.date.ordinal_in.Goals as goal
 use Rattle.civil.proofs.date.ordinal_in.Goals.{After-days_before_year}

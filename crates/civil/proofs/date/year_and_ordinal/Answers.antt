@@ -1,6 +1,6 @@
 use Rattle.std.proofs.Common.{pos, negsuc, ◌≤ℤ◌, ◌+◌, to_z, of_z, w32, arith}
 use Rattle.civil.specs.CivilDates.{HoldsDay}
-use Rattle.civil.proofs.SignedLemmas.{signed_arith}
+use Rattle.jiff_core.proofs.SignedLemmas.{signed_arith}
 use Rattle.civil.proofs.DateOfDay.{year_in_calendar}
 use Rattle.civil.proofs.Setters.{ordinal_day-is}
 use Rattle.civil.proofs.date.year_and_ordinal.Goals as goal

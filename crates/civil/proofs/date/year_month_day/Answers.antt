@@ -1,7 +1,7 @@
 use Rattle.std.proofs.Common.{◌≡◌, ℕ, pos, ◌+ℤ◌, ◌-◌, to_z, of_z, to_z-of_z, w32, FitsSigned, rules, refl, sym, ap, ◌∙◌, arith}
 use Rattle.civil.specs.Calendar.{year_start, days_of_months}
 use Rattle.civil.specs.CivilDates.{HoldsDay}
-use Rattle.civil.proofs.SignedLemmas.{signed_arith}
+use Rattle.jiff_core.proofs.SignedLemmas.{signed_arith}
 use Rattle.civil.proofs.DateOfDay.{date_by_parts, moved_date}
 use Rattle.civil.proofs.date.year_month_day.Goals as goal
 

@@ -1,7 +1,7 @@
 use Rattle.std.proofs.Common.{◌≡◌, ℤ, pos, negsuc, ◌≤ℤ◌, ap, ◌∙◌, arith, to_z, of_z, w32, w64}
 use Rattle.std.specs.Int.{int_div_euclid}
 use Rattle.civil.specs.Months.{moved_year, moved_month}
-use Rattle.civil.proofs.SignedLemmas.{signed_casts, one_part, int_rem_euclid-parts, bits_of_nonnegative}
+use Rattle.jiff_core.proofs.SignedLemmas.{signed_casts, one_part}
 use Rattle.civil.proofs.moves.month_after.Goals as goal
 
 -- a year near the calendar comes back from its bits
@@ -21,4 +21,4 @@ returns-clause-year c =
 
 pub returns-clause-month : goal.returns-clause-month
 unfolding moved_month
-returns-clause-month c = omega (arith, signed_casts, int_rem_euclid-parts, bits_of_nonnegative, one_part c.rem_euclid.result)
+returns-clause-month c = omega (arith, signed_casts, one_part c.rem_euclid.result)

@@ -1,7 +1,7 @@
 use Rattle.std.proofs.Common.{◌≡◌, ◌+◌, ℤ, pos, negsuc, ◌≤ℤ◌, unsigned_abs, ap, ◌∙◌, arith, to_z, of_z, to_z-of_z, w32, w64, FitsSigned}
 use Rattle.std.specs.Int.{int_div_euclid, int_rem_euclid}
 use Rattle.civil.specs.Months.{month_number, moved_year, moved_month}
-use Rattle.civil.proofs.SignedLemmas.{signed_arith, signed_casts, int_rem_euclid-parts}
+use Rattle.jiff_core.proofs.SignedLemmas.{signed_arith, signed_casts, int_rem_euclid-parts}
 use Rattle.interim.proofs.jiff_backend.month_after.Goals as goal
 
 -- a year near the calendar comes back from its bits

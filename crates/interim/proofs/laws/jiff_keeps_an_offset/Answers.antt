@@ -1,5 +1,5 @@
 use Rattle.std.proofs.Common.{◌≡◌, inl, ℤ, ◌+ℤ◌, ◌-ℤ◌, sym, ap, ◌∙◌, arith}
-use Rattle.civil.proofs.SignedLemmas.{signed_arith}
+use Rattle.jiff_core.proofs.SignedLemmas.{signed_arith}
 use Rattle.jiff.proofs.ZoneFacts.{offset_at-fixed_zone, picked_instant-fixed_zone}
 use Rattle.jiff_core.specs.declared.offset.Offset.{Offset}
 use Rattle.jiff.specs.Placed.{fixed_zone}

@@ -1,7 +1,7 @@
 use Rattle.std.proofs.Common.{◌≡◌, ℤ, ◌+ℤ◌, rules, sym, ap, ◌∙◌, arith, to_z, of_z, to_z-of_z, w32, FitsSigned}
 use Rattle.std.proofs.lemmas.Result.{err_from_is_err_and}
 use Rattle.std.specs.Ordering.{int_cmp}
-use Rattle.civil.proofs.SignedLemmas.{signed_arith}
+use Rattle.jiff_core.proofs.SignedLemmas.{signed_arith}
 use Rattle.interim.specs.DatesAndTimes.{date_at}
 use Rattle.interim.specs.Walls.{month_day, step_by}
 use Rattle.interim.proofs.Answered.{refused_on, gives_at, month_day-none, month_day-is}

@@ -2,7 +2,7 @@ use Rattle.std.proofs.Common.{◌≡◌, ℤ, pos, ◌+ℤ◌, ◌-ℤ◌, rules
 use Rattle.std.proofs.lemmas.Result.{err_from_is_err_and}
 use Rattle.std.specs.Ordering.{int_cmp}
 use Rattle.civil.specs.Calendar.{weekday_of}
-use Rattle.civil.proofs.SignedLemmas.{signed_casts}
+use Rattle.jiff_core.proofs.SignedLemmas.{signed_casts}
 use Rattle.interim.specs.declared.types.Direction.{Direction}
 use Rattle.interim.specs.Refusal.{within}
 use Rattle.interim.specs.Walls.{Wall, sought, step_by}

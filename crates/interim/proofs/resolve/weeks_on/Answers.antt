@@ -1,5 +1,5 @@
 use Rattle.std.proofs.Common.{◌≡◌, ℤ, pos, ◌+ℤ◌, ◌*ℤ◌, ap, arith, to_z, of_z, to_z-of_z, w32, w64}
-use Rattle.civil.proofs.SignedLemmas.{signed_arith}
+use Rattle.jiff_core.proofs.SignedLemmas.{signed_arith}
 use Rattle.interim.specs.Refusal.{within}
 use Rattle.interim.proofs.Answered.{gives_at}
 use Rattle.interim.proofs.resolve.weeks_on.Goals as goal

@@ -1,6 +1,6 @@
 use Rattle.std.proofs.Common.{to_z-of_z, FitsSigned, w64, rules, arith}
 use mir.Syntax.{w128}
-use Rattle.civil.proofs.SignedLemmas.{signed_casts}
+use Rattle.jiff_core.proofs.SignedLemmas.{signed_casts}
 use Rattle.timeline.proofs.check.are_near.Goals as goal
 
 pub returns : goal.returns

@@ -1,5 +1,5 @@
 use Rattle.std.proofs.Common.{arith}
-use Rattle.civil.proofs.SignedLemmas.{signed_casts}
+use Rattle.jiff_core.proofs.SignedLemmas.{signed_casts}
 use Rattle.timeline.proofs.check.both_lie_in.Goals as goal
 
 pub returns-then-lie_in : goal.returns-then-lie_in

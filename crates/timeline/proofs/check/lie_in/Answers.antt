@@ -1,5 +1,5 @@
 use Rattle.std.proofs.Common.{arith}
-use Rattle.civil.proofs.SignedLemmas.{signed_casts}
+use Rattle.jiff_core.proofs.SignedLemmas.{signed_casts}
 use Rattle.timeline.proofs.check.lie_in.Goals as goal
 
 pub returns-then-begin_from : goal.returns-then-begin_from

@@ -1,5 +1,5 @@
 use Rattle.std.proofs.Common.{◌≡◌, ℕ, ℤ, ◌<◌, ◌+◌, pos, negsuc, ◌+ℤ◌, ◌<ℤ◌, to_z, of_z, to_z-of_z, FitsSigned, w64, rules, sym, subst, arith}
-use Rattle.civil.proofs.SignedLemmas.{signed_arith}
+use Rattle.jiff_core.proofs.SignedLemmas.{signed_arith}
 use Rattle.timeline.specs.declared.fault.ZoneFault.{ZoneFault}
 use Rattle.timeline.specs.Inside.LeastFaults.{TellsLeast}
 use Rattle.timeline.specs.Inside.CheckSteps.{IsSecondAt, KeepsAt}

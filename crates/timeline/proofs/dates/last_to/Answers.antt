@@ -1,5 +1,5 @@
 use Rattle.std.proofs.Common.{pos, ◌+ℤ◌, arith}
-use Rattle.civil.proofs.SignedLemmas.{signed_casts}
+use Rattle.jiff_core.proofs.SignedLemmas.{signed_casts}
 use Rattle.civil.specs.Calendar.{year_start}
 use Rattle.timeline.proofs.DatePlaces.{last_on-is}
 use Rattle.timeline.proofs.dates.last_to.Goals as goal

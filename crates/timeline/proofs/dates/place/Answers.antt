@@ -2,7 +2,7 @@ use Rattle.std.proofs.Common.{◌≡◌, ◌+◌, ◌-◌, ◌≤◌, suc, true,
 use Rattle.std.specs.Prelude.{unsigned_abs, int_lt}
 use Rattle.std.proofs.lemmas.Bool.{lt-ltb}
 use Rattle.civil.specs.Calendar.{year_start, days_of_months, example_year}
-use Rattle.civil.proofs.SignedLemmas.{signed_casts}
+use Rattle.jiff_core.proofs.SignedLemmas.{signed_casts}
 use Rattle.civil.proofs.YearKinds.{kind_of_example}
 use Rattle.timeline.specs.RuleDays.{first_on, last_on, code_weekday}
 use Rattle.timeline.specs.DateView.{day_code}

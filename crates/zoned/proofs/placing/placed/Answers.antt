@@ -1,6 +1,6 @@
 use Rattle.std.proofs.Common.{◌≡◌, false, true, ◌-ℤ◌, ap, refl, arith}
 use Rattle.std.proofs.lemmas.Int.{ints}
-use Rattle.civil.proofs.SignedLemmas.{signed_arith}
+use Rattle.jiff_core.proofs.SignedLemmas.{signed_arith}
 use Rattle.civil.specs.Times.{wall_of}
 use Rattle.zoned.specs.CivilAnswers.{first_offset}
 use Rattle.zoned.proofs.PlacedSeconds.{placed-civil}

@@ -1,7 +1,7 @@
 use Rattle.std.proofs.Common.{◌≡◌, ◌↔◌, ℤ, pos, neg_ℤ, ◌-ℤ◌, IsSome, subst, arith, to_z, of_z, w64}
 use Rattle.civil.specs.CivilDates.{IsDay}
 use Rattle.civil.specs.Months.{months_on}
-use Rattle.civil.proofs.SignedLemmas.{signed_casts}
+use Rattle.jiff_core.proofs.SignedLemmas.{signed_casts}
 use Rattle.civil.proofs.date.NaiveDate.checked_sub_months.Goals as goal
 
 pub returns-clause-some : goal.returns-clause-some

@@ -1,6 +1,6 @@
 use Rattle.std.proofs.Common.{◌≡◌, ◌↔◌, ℤ, pos, ◌+ℤ◌, ◌-ℤ◌, int_div, IsSome, subst, arith, to_z, of_z, w64}
 use Rattle.civil.specs.CivilDates.{IsDay}
-use Rattle.civil.proofs.SignedLemmas.{signed_arith}
+use Rattle.jiff_core.proofs.SignedLemmas.{signed_arith}
 use Rattle.civil.proofs.date.NaiveDate.checked_sub_signed.Goals as goal
 
 pub returns-clause-some : goal.returns-clause-some

@@ -1,7 +1,7 @@
 use Rattle.std.proofs.Common.{arith, ◌-◌, to_z, of_z, to_z-of_z, w32, ◌≡◌, ap, ◌∙◌}
 use Rattle.civil.specs.CivilDates.{IsDate}
 use Rattle.civil.specs.Calendar.{year_start, days_of_months, days_in_month}
-use Rattle.civil.proofs.SignedLemmas.{signed_arith, signed_casts}
+use Rattle.jiff_core.proofs.SignedLemmas.{signed_arith, signed_casts}
 use Rattle.civil.proofs.CalendarLemmas.{code_day, CodeDay}
 use Rattle.civil.proofs.date.NaiveDate.from_ymd_opt.Goals as goal
 use Rattle.civil.proofs.date.NaiveDate.from_ymd_opt.Goals.{After-days_before_month}

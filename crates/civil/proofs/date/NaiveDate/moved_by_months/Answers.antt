@@ -2,7 +2,7 @@ use Rattle.std.proofs.Common.{◌≡◌, ◌↔◌, ℕ, ℤ, min, IsSome, IfSom
 use Rattle.civil.specs.CivilDates.{IsDate, IsDateOf}
 use Rattle.civil.specs.Calendar.{day_of, days_in_month}
 use Rattle.civil.specs.Months.{months_on, moved_year, moved_month}
-use Rattle.civil.proofs.SignedLemmas.{signed_arith}
+use Rattle.jiff_core.proofs.SignedLemmas.{signed_arith}
 use Rattle.civil.proofs.DateOfDay.{moved_date}
 use Rattle.civil.proofs.DateMoves.{CodeMove, code_moves, month_has_days}
 use Rattle.civil.proofs.date.NaiveDate.moved_by_months.Goals as goal

@@ -1,7 +1,7 @@
 use Rattle.std.proofs.Common.{◌≡◌, ◌∙◌, ◌↔◌, ℕ, ℤ, pos, ◌≤ℤ◌, IsSome, IfSome, subst, refl, arith, rules, to_z, of_z, to_z-of_z, w32, w64, FitsSigned}
 use Rattle.civil.specs.CivilDates.{IsDateOf}
 use Rattle.civil.specs.Ages.{years_between}
-use Rattle.civil.proofs.SignedLemmas.{signed_arith}
+use Rattle.jiff_core.proofs.SignedLemmas.{signed_arith}
 use Rattle.civil.proofs.DateOfDay.{moved_date}
 use Rattle.civil.proofs.YearsBetween.{years_once}
 use Rattle.civil.proofs.date.NaiveDate.years_since.Goals as goal

@@ -1,5 +1,5 @@
 use Rattle.std.proofs.Common.{refl, arith}
-use Rattle.civil.proofs.SignedLemmas.{signed_arith}
+use Rattle.jiff_core.proofs.SignedLemmas.{signed_arith}
 use Rattle.civil.proofs.DateOfDay.{moved_date}
 use Rattle.civil.proofs.date.NaiveDateDatelike.day.Goals as goal
 

@@ -1,6 +1,6 @@
 use Rattle.std.proofs.Common.{◌≡◌, ◌∙◌, ℕ, ℤ, subst, sym, to_z, of_z, to_z-of_z, w32, w64, FitsSigned, rules, arith}
 use Rattle.civil.specs.Ordinals.{IsOrdinalOf}
-use Rattle.civil.proofs.SignedLemmas.{signed_arith}
+use Rattle.jiff_core.proofs.SignedLemmas.{signed_arith}
 use Rattle.civil.proofs.Setters.{IsOrdinalAnswer, answered_ordinal, ordinal_once}
 use Rattle.civil.proofs.date.NaiveDateDatelike.with_ordinal.Goals as goal
 use Rattle.civil.proofs.date.NaiveDateDatelike.with_ordinal.Goals.{After-date_of_ordinal}

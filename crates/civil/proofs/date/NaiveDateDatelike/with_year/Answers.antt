@@ -1,6 +1,6 @@
 use Rattle.std.proofs.Common.{◌≡◌, ℕ, ℤ, refl, sym, arith, to_z, of_z, to_z-of_z, w32}
 use Rattle.civil.specs.CivilDates.{IsDateOf}
-use Rattle.civil.proofs.SignedLemmas.{signed_arith}
+use Rattle.jiff_core.proofs.SignedLemmas.{signed_arith}
 use Rattle.civil.proofs.DateOfDay.{moved_date}
 use Rattle.civil.proofs.DateOrder.{date_once}
 use Rattle.civil.proofs.Setters.{IsAnswer, answered}

@@ -1,7 +1,7 @@
 use Rattle.std.proofs.Common.{◌≡◌, ◌∙◌, sym, refl, ap, arith, rules, to_z, of_z, to_z-of_z, w32, FitsSigned, unsigned_abs}
 use Rattle.civil.specs.CivilDates.{IsDateOf}
 use Rattle.civil.specs.Dates.{year_sign}
-use Rattle.civil.proofs.SignedLemmas.{signed_arith}
+use Rattle.jiff_core.proofs.SignedLemmas.{signed_arith}
 use Rattle.civil.proofs.DateOfDay.{moved_date}
 use Rattle.civil.proofs.DateTexts.{written, date_text-is}
 use Rattle.civil.proofs.date_text.NaiveDateDisplay.fmt.Goals as goal

@@ -1,7 +1,7 @@
 use Rattle.std.proofs.Common.{◌≡◌, ℤ, pos, ap, arith, to_z, of_z, w64}
 use Rattle.std.specs.Int.{int_rem_euclid}
 use Rattle.civil.specs.Clock.{wall_clock}
-use Rattle.civil.proofs.SignedLemmas.{signed_casts, one_part, bits_of_nonnegative}
+use Rattle.jiff_core.proofs.SignedLemmas.{signed_casts, one_part, bits_of_nonnegative}
 use Rattle.civil.proofs.datetime.NaiveDateTime.time.Goals as goal
 
 pub returns-clause-second : goal.returns-clause-second

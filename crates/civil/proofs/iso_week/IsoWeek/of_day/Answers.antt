@@ -1,6 +1,6 @@
 use Rattle.std.proofs.Common.{◌≡◌, ◌∙◌, false, true, arith, rules, pos, ℤ, ◌+ℤ◌, to_z, of_z, to_z-of_z, w32, w64, FitsSigned, ap}
 use Rattle.civil.specs.Calendar.{year_start, thursday_of}
-use Rattle.civil.proofs.SignedLemmas.{signed_arith}
+use Rattle.jiff_core.proofs.SignedLemmas.{signed_arith}
 use Rattle.civil.proofs.CalendarLemmas.{first_start_i32, last_start_i32}
 use Rattle.civil.proofs.WeekOfThursday.{week_by_ordinal}
 use Rattle.civil.proofs.iso_week.IsoWeek.of_day.Goals as goal

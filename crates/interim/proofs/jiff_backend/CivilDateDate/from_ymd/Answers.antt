@@ -1,5 +1,5 @@
 use Rattle.std.proofs.Common.{◌≡◌, ◌∙◌, false, true, ℤ, sym, subst, arith, to_z-of_z}
-use Rattle.civil.proofs.SignedLemmas.{signed_casts}
+use Rattle.jiff_core.proofs.SignedLemmas.{signed_casts}
 use Rattle.jiff_core.proofs.CalendarLemmas.{days_in_month_bounds}
 use Rattle.jiff_core.specs.Calendar.{IsCivilDate}
 use Rattle.interim.proofs.JiffDays.{found, not_found, signed_date}

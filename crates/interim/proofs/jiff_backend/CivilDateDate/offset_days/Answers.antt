@@ -1,5 +1,5 @@
 use Rattle.std.proofs.Common.{◌≡◌, ◌∙◌, true, false, Some, ℤ, ◌+ℤ◌, refl, sym, ap, arith}
-use Rattle.civil.proofs.SignedLemmas.{signed_casts}
+use Rattle.jiff_core.proofs.SignedLemmas.{signed_casts}
 use Rattle.jiff_core.specs.Date.{epoch_day}
 use Rattle.interim.specs.Jiff.{jiff_days}
 use Rattle.interim.proofs.Stretches.{is_within-of, is_within-not}

@@ -2,7 +2,7 @@ use Rattle.std.proofs.Common.{◌≡◌, ℕ, ℤ, Option, Some, None, min, refl
 use mir.Syntax.{w16}
 use Rattle.civil.specs.Calendar.{days_in_month}
 use Rattle.civil.specs.Months.{moved_year, moved_month, months_on}
-use Rattle.civil.proofs.SignedLemmas.{signed_arith, signed_casts}
+use Rattle.jiff_core.proofs.SignedLemmas.{signed_arith, signed_casts}
 use Rattle.jiff_core.specs.Date.{epoch_day}
 use Rattle.jiff_core.specs.declared.civil.date.Date.{Date}
 use Rattle.interim.specs.Jiff.{jiff_days}

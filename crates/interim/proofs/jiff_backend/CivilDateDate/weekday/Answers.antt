@@ -1,6 +1,6 @@
 use Rattle.std.proofs.Common.{arith}
 use Rattle.jiff_core.specs.Date.{epoch_day}
-use Rattle.civil.proofs.SignedLemmas.{signed_casts}
+use Rattle.jiff_core.proofs.SignedLemmas.{signed_casts}
 use Rattle.interim.proofs.JiffDays.{same_weekday}
 use Rattle.interim.proofs.jiff_backend.CivilDateDate.weekday.Goals as goal
 

@@ -1,6 +1,6 @@
 use Rattle.std.proofs.Common.{arith, to_z, of_z, w32}
 use mir.Syntax.{w16}
-use Rattle.civil.proofs.SignedLemmas.{signed_casts}
+use Rattle.jiff_core.proofs.SignedLemmas.{signed_casts}
 use Rattle.interim.proofs.JiffDays.{date_of}
 use Rattle.interim.proofs.jiff_backend.CivilDateDate.year.Goals as goal
 

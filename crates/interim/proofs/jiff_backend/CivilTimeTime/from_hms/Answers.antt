@@ -1,6 +1,6 @@
 use Rattle.std.proofs.Common.{arith}
 use Rattle.civil.specs.Clock.{IsClock}
-use Rattle.civil.proofs.SignedLemmas.{signed_casts}
+use Rattle.jiff_core.proofs.SignedLemmas.{signed_casts}
 use Rattle.jiff_core.specs.Time.{time_seconds}
 use Rattle.interim.proofs.Stretches.{found_time, no_time}
 use Rattle.interim.proofs.jiff_backend.CivilTimeTime.from_hms.Goals as goal

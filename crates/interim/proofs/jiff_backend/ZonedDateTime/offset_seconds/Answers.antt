@@ -1,6 +1,6 @@
 use Rattle.std.proofs.Common.{◌≡◌, ◌∙◌, ℤ, pos, ◌+ℤ◌, false, true, sym, ap, arith, unsigned_abs}
 use Rattle.std.specs.Int.{int_div_euclid, int_rem_euclid}
-use Rattle.civil.proofs.SignedLemmas.{signed_casts}
+use Rattle.jiff_core.proofs.SignedLemmas.{signed_casts}
 use Rattle.jiff.specs.ZonedView.{plain_zoned, zoned_nanos}
 use Rattle.jiff_core.specs.declared.timestamp.Timestamp.{Timestamp}
 use Rattle.interim.specs.Jiff.{instant, second_of, fraction_of}

@@ -1,6 +1,6 @@
 use Rattle.std.proofs.Common.{◌≡◌, ℤ, Option, Some, pos, ◌+ℤ◌, ◌-ℤ◌, ◌*ℤ◌, ◌/◌, rules, sym, ap, ◌∙◌, arith, to_z, of_z, to_z-of_z, w64, FitsSigned}
 use Rattle.std.proofs.lemmas.Result.{err_from_is_err_and}
-use Rattle.civil.proofs.SignedLemmas.{signed_casts}
+use Rattle.jiff_core.proofs.SignedLemmas.{signed_casts}
 use Rattle.interim.specs.Refusal.{within}
 use Rattle.interim.specs.Aims.{AtSecond, aim, clock_on}
 use Rattle.interim.specs.Meaning.{Lands}

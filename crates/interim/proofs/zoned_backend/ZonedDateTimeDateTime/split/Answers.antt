@@ -1,7 +1,7 @@
 use Rattle.std.proofs.Common.{◌≡◌, false, true, ℤ, ◌+ℤ◌, refl, sym, ap, subst, ◌∙◌, arith}
 use Rattle.civil.specs.Clock.{wall_day, wall_clock}
 use Rattle.civil.specs.Times.{wall_of}
-use Rattle.civil.proofs.SignedLemmas.{signed_arith}
+use Rattle.jiff_core.proofs.SignedLemmas.{signed_arith}
 use Rattle.civil.proofs.WallParts.{wall_parts}
 use Rattle.zoned.specs.Moment.{second_of, fraction_of, offset_of}
 use Rattle.interim.specs.Walls.{Wall}

@@ -1,7 +1,7 @@
 use Rattle.std.proofs.Common.{◌≡◌, false, true, ◌+ℤ◌, refl, ◌∙◌, arith}
 use Rattle.civil.specs.Clock.{wall_day, wall_clock}
 use Rattle.civil.specs.Times.{wall_of}
-use Rattle.civil.proofs.SignedLemmas.{signed_arith}
+use Rattle.jiff_core.proofs.SignedLemmas.{signed_arith}
 use Rattle.civil.proofs.WallParts.{wall_parts}
 use Rattle.interim.specs.Walls.{Wall}
 use Rattle.interim.proofs.Stretches.{no_wall_day}

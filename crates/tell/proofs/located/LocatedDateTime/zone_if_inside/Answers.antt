@@ -1,6 +1,6 @@
 use Rattle.std.proofs.Common.{◌+ℤ◌, refl, arith}
 use Rattle.civil.specs.Clock.{wall_day, wall_clock}
-use Rattle.civil.proofs.SignedLemmas.{signed_arith}
+use Rattle.jiff_core.proofs.SignedLemmas.{signed_arith}
 use Rattle.civil.proofs.WallParts.{wall_parts}
 use Rattle.interim.specs.Walls.{Wall}
 use Rattle.tell.specs.Inside.LocatedView.{second_in, nanos_in, zone_in}

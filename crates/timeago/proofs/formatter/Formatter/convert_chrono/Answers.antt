@@ -1,7 +1,7 @@
 use Rattle.std.proofs.Common.{◌≡◌, ◌∙◌, ℕ, IfOk, ap, subst, arith, ◌-ℤ◌, unsigned_abs}
 use Rattle.std.specs.Duration.{as_nanos}
 use Rattle.std.specs.String.{string_bytes}
-use Rattle.civil.proofs.SignedLemmas.{signed_arith}
+use Rattle.jiff_core.proofs.SignedLemmas.{signed_arith}
 use Rattle.zoned.specs.Moment.{nanos_since_epoch}
 use Rattle.timeago.specs.Within.{TellsWithin}
 use Rattle.timeago.specs.Formatters.{settings_of, language_of}

@@ -1,5 +1,5 @@
 use Rattle.std.proofs.Common.{arith}
-use Rattle.civil.proofs.SignedLemmas.{signed_casts}
+use Rattle.jiff_core.proofs.SignedLemmas.{signed_casts}
 use Rattle.timeline.proofs.check.apart.lie_apart.Goals as goal
 
 pub overflow_add-first : goal.overflow_add-first

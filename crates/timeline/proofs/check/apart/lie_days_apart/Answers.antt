@@ -1,5 +1,5 @@
 use Rattle.std.proofs.Common.{pos, ◌<ℤ◌, to_z-of_z, FitsSigned, w64, rules, arith}
-use Rattle.civil.proofs.SignedLemmas.{signed_casts}
+use Rattle.jiff_core.proofs.SignedLemmas.{signed_casts}
 use Rattle.timeline.proofs.check.apart.lie_days_apart.Goals as goal
 
 pub returns : goal.returns

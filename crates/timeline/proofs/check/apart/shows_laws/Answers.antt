@@ -1,5 +1,5 @@
 use Rattle.std.proofs.Common.{to_z-of_z, arith}
-use Rattle.civil.proofs.SignedLemmas.{signed_casts}
+use Rattle.jiff_core.proofs.SignedLemmas.{signed_casts}
 use Rattle.timeline.proofs.check.apart.shows_laws.Goals as goal
 
 pub returns-then-lie_days_apart : goal.returns-then-lie_days_apart

@@ -2,7 +2,7 @@ use Rattle.std.proofs.Common.{◌≡◌, ◌<◌, ℕ, ℤ, pos, ◌+ℤ◌, ref
 use Rattle.std.specs.Int.{int_div_euclid}
 use Rattle.civil.specs.Clock.{IsWallSecond}
 use Rattle.civil.specs.Delta.{second_nanos}
-use Rattle.civil.proofs.SignedLemmas.{signed_arith, signed_casts}
+use Rattle.jiff_core.proofs.SignedLemmas.{signed_arith, signed_casts}
 use Rattle.zoned.specs.Moment.{nanos_since_epoch}
 use Rattle.zoned.proofs.datetime.DateTime+Tz.checked_add_signed.Goals as goal
 use Rattle.zoned.proofs.datetime.DateTime+Tz.checked_add_signed.Goals.{After-from_utc_datetime, In-None}

@@ -1,6 +1,6 @@
 use Rattle.std.proofs.Common.{◌≡◌, pos, ◌+ℤ◌, ◌-ℤ◌, ◌∙◌, rules, to_z, of_z, to_z-of_z, w64, FitsSigned, arith}
 use Rattle.civil.specs.Delta.{second_nanos}
-use Rattle.civil.proofs.SignedLemmas.{signed_casts, one_part, unsigned_abs-parts}
+use Rattle.jiff_core.proofs.SignedLemmas.{signed_casts, one_part, unsigned_abs-parts}
 use Rattle.zoned.specs.Moment.{nanos_since_epoch}
 use Rattle.zoned.proofs.datetime.DateTime+Tz.signed_duration_since.Goals as goal
 use Rattle.zoned.proofs.datetime.DateTime+Tz.signed_duration_since.Goals.{After-new, After-unwrap}

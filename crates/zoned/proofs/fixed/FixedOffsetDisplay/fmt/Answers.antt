@@ -1,5 +1,5 @@
 use Rattle.std.proofs.Common.{◌≡◌, to_z, of_z, w32, ap, ◌∙◌, arith, unsigned_abs}
-use Rattle.civil.proofs.SignedLemmas.{signed_arith}
+use Rattle.jiff_core.proofs.SignedLemmas.{signed_arith}
 use Rattle.zoned.specs.Texts.{offset_sign}
 use Rattle.zoned.proofs.OffsetTexts.{short_text, long_text}
 use Rattle.zoned.proofs.fixed.FixedOffsetDisplay.fmt.Goals as goal
