@@ -9,6 +9,10 @@ use std::alloc::Global;
 /// So many bytes are read at once.
 pub const PIECE: usize = 4096;
 
+// At most so much room is taken for a source before its first byte is read. It is enough for a bundle of the world's zones,
+// and pages that nothing is written to cost nothing.
+const FIRST_ROOM: usize = 262_144;
+
 /// Why a source was not read to its end.
 #[derive(Clone, Copy, Debug, PartialEq, Eq)]
 pub enum ReadError {
@@ -40,7 +44,9 @@ pub fn read_all<S: Source>(
     ensures taken { TookAtMost (S.left source.old) (S.left source.new) (limit + 1) }
     ensures faults { S.faults source.old ≤ S.faults source.new }
 {
-    let mut bytes = Vec::new(alloc);
+    let Ok(mut bytes) = Vec::with_capacity(alloc, FIRST_ROOM.min(limit + 1)) else {
+        return Err(ReadError::Memory);
+    };
     let mut piece = [0u8; PIECE];
     'reading: loop {
         let room = (limit + 1 - bytes.len()).min(PIECE);
