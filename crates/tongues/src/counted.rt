@@ -19,11 +19,15 @@ pub fn one_few_many(
         if x % 10 == 1 then one.now else (
         if nat_le 2 (x % 10) && nat_le (x % 10) 4 then few.now else many.now))) }
 {
-    let last_two = x % 100;
-    if 11 <= last_two && last_two <= 20 {
-        return many;
+    // most counts are below 100, and need one division at most
+    let last_two = if x < 100 { x } else { x % 100 };
+    match last_two {
+        1 => return one,
+        2..=4 => return few,
+        0 | 5..=20 => return many,
+        _ => {}
     }
-    match x % 10 {
+    match last_two % 10 {
         1 => one,
         2..=4 => few,
         _ => many,
