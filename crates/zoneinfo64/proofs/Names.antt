@@ -141,6 +141,16 @@ found-is es are t m e at_m equal =
     (λ k f at_k lt. same-order f t ∙ ap is_eq (sym (alike_right nat_list_cmp_total (text e) t (text f) equal) ∙ texts_rise es are.rising k m f e at_k at_m lt)))
     (slice_get_within es m e at_m)
 
+tied : (o : Ordering) → is_eq o ≡ true → o ≡ Equal
+tied Less h = cc
+tied Equal h = refl
+tied Greater h = cc
+
+-- the same, by one test
+pub same-is : (es : List Named) → AreEntries es → (t : List ℕ) (m : ℕ) (e : Named) → slice_get es m ≡ Some e → bytes_eq (text e) t ≡ true
+    → position (has_text t) es ≡ Some m
+same-is es are t m e at_m same = found-is es are t m e at_m (tied _ (sym (same-order e t) ∙ same))
+
 -- with every entry below the text or above it there is none
 pub missing-is : (es : List Named) (t : List ℕ) (n : ℕ)
     → ((k : ℕ) (e : Named) → slice_get es k ≡ Some e → k < n → order (text e) t ≡ Less)

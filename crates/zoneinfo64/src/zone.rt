@@ -101,7 +101,7 @@ impl ZoneInfo64 {
         ensures list { IfSome result (λ z. list_of z ≡ self.now) }
         ensures place { IfSome result (λ z. place_named self.now iana.now ≡ Some (place_in z)) }
     {
-        self.get_near(iana, self.entries.len() / 2)
+        self.get_near(iana, self.entries.len())
     }
 
     /// The same, where the name is looked for first at a place. Which place this is changes the time that it takes, and
@@ -130,27 +130,33 @@ ghost use Rattle.zoneinfo64.specs.NamedZone.{name_text};
 ghost use Rattle.zoneinfo64.specs.Inside.ZoneList.{AreEntries};
 ghost use Rattle.zoneinfo64.specs.declared.zone.Named.{Named};
 
-/// The place of the entry of that name. The first that is looked at is the one at `near`, and then those in the middle of what
-/// is left.
+/// The place of the entry of that name. The first that is looked at is the one at `near`, where there is one, by one test of
+/// equality.
 fn place_of(entries: &[Named], iana: &str, near: usize) -> Option<usize>
+    requires { AreEntries entries.now }
+    ensures { result
+        ≡ position (λ (e : Named). bytes_eq (name_text e.name) iana.now) entries.now }
+{
+    if near < entries.len() && entries[near].name.text() == iana {
+        return Some(near);
+    }
+    place_by_halves(entries, iana)
+}
+
+/// The same, by looks in the middle of what is left.
+fn place_by_halves(entries: &[Named], iana: &str) -> Option<usize>
     requires { AreEntries entries.now }
     ensures { result
         ≡ position (λ (e : Named). bytes_eq (name_text e.name) iana.now) entries.now }
 {
     let mut low = 0;
     let mut high = entries.len();
-    let mut middle = if near < high { near } else { high / 2 };
     while low < high {
+        let middle = low + (high - low) / 2;
         match entries[middle].name.text().cmp(iana) {
-            Ordering::Less => {
-                low = middle + 1;
-                middle = low + (high - low) / 2;
-            }
+            Ordering::Less => low = middle + 1,
             Ordering::Equal => return Some(middle),
-            Ordering::Greater => {
-                high = middle;
-                middle = low + (high - low) / 2;
-            }
+            Ordering::Greater => high = middle,
         }
     }
     None

@@ -5,13 +5,11 @@ use Rattle.std.specs.declared.cmp.Ordering.TheVariants.{Less, Greater}
 use Rattle.std.specs.Cmp.Lexicographic.{slice_cmp}
 use Rattle.zoneinfo64.specs.NamedZone.{name_text}
 use Rattle.zoneinfo64.specs.declared.zone.Named.{Named}
-use Rattle.zoneinfo64.proofs.zone.place_of.Given as goal
+use Rattle.zoneinfo64.proofs.zone.place_by_halves.Given as goal
 
 abbrev pub invariant-loop-low : goal.invariant-loop-low
 invariant-loop-low l = record {
   within : l.high ≤ length l.entries;
-  from : l.low < l.high → l.low ≤ l.middle;
-  before : l.low < l.high → l.middle < l.high;
   below : (k : ℕ) (e : Named) → slice_get l.entries k ≡ Some e → k < l.low → slice_cmp nat_cmp (name_text e.name) l.iana ≡ Less;
   above : (k : ℕ) (e : Named) → slice_get l.entries k ≡ Some e → l.high ≤ k → slice_cmp nat_cmp (name_text e.name) l.iana ≡ Greater;
 }
