@@ -1,5 +1,5 @@
 //! The parts of a resource, looked at where they stand in the words of a bundle.
-ghost use Rattle.std.specs.Prelude.{◌≡◌, ◌+◌, ◌<◌, length, slice_get, Some, IfOk};
+ghost use Rattle.std.specs.Prelude.{◌≡◌, ◌+◌, ◌<◌, ◌≤◌, length, slice_get, take, Some, IfOk};
 ghost use Rattle.std.specs.Str.{bytes_eq};
 ghost use Rattle.resb_tree.specs.Forms.{told, items_end};
 ghost use Rattle.resb_tree.specs.Fields.{first_with};
@@ -12,7 +12,7 @@ use crate::forms::{ArrayForm, TableForm};
 use crate::in_place::ResourceRef;
 use crate::key_places::{key_bytes, key_is};
 use crate::places::entry_at;
-use crate::words::{bytes_from, unit_at, units_from};
+use crate::words::{bytes_from, copy_units, unit_at, units_from};
 use sqlite_items::Items;
 use std::alloc::{AllocError, Global};
 use std::marker::Model;
@@ -221,6 +221,15 @@ impl<'a> TextRef<'a> {
         ensures { IfOk result (λ items. items ≡ self.now) }
     {
         units_from(alloc, self.words, self.from, self.count)
+    }
+
+    /// Copies its units to the front of a slice that has room for them.
+    #[tactic(auto, using(crate::proofs::Runs::length_run))]
+    pub fn copy_to(&self, units: &mut [u16])
+        requires { length self.now ≤ length units.old }
+        ensures { take (length self.now) units.new ≡ self.now }
+    {
+        copy_units(self.words, self.from, self.count, units);
     }
 }
 

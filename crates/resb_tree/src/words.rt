@@ -1,4 +1,4 @@
-ghost use Rattle.std.specs.Prelude.{◌≡◌, ℕ, ◌+◌, ◌*◌, ◌/◌, ◌%◌, ◌<◌, ◌≤◌, length, slice_index, IfOk};
+ghost use Rattle.std.specs.Prelude.{◌≡◌, ℕ, ◌+◌, ◌*◌, ◌/◌, ◌%◌, ◌<◌, ◌≤◌, length, slice_index, take, IfOk};
 ghost use Rattle.resb_tree.specs.Words.{run, unit_in, byte_in};
 
 use sqlite_items::Items;
@@ -51,6 +51,29 @@ pub fn units_from(
         }
     }
     Ok(Items::from_vec(found))
+}
+
+/// Copies so many 16-bit units, from one on, to the front of a slice: a whole word at a time, but for a unit that stands alone
+/// in its word.
+pub fn copy_units(words: &[u32], from: usize, count: usize, units: &mut [u16])
+    requires places { from + count ≤ 2 * length words.now }
+    requires room { count ≤ length units.old }
+    ensures { take count units.new ≡ run (unit_in words.now) from count }
+{
+    let mut at = 0;
+    if from % 2 != 0 && count != 0 {
+        units[0] = unit_at(words, from);
+        at = 1;
+    }
+    while at + 2 <= count {
+        let word = words[(from + at) / 2];
+        units[at] = (word % 65_536) as u16;
+        units[at + 1] = (word / 65_536) as u16;
+        at += 2;
+    }
+    if at < count {
+        units[at] = unit_at(words, from + at);
+    }
 }
 
 /// So many bytes, from one on.

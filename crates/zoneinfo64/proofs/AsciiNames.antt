@@ -3,8 +3,7 @@ use Rattle.std.proofs.Common.{◌≡◌, ℕ, ◌<◌, false, ◌&&◌, List, []
 use Rattle.std.specs.Option.{unwrap_or}
 use Rattle.std.specs.Char.Utf16.{utf16_chars, is_high_surrogate, is_low_surrogate, lone_unit_char}
 use Rattle.std.proofs.lemmas.Bool.Decides.{nat_tests}
-use Rattle.std.proofs.lemmas.List.{take_all}
-use Rattle.std.proofs.lemmas.List.Elements.{All-head, All-tail}
+use Rattle.std.proofs.lemmas.List.Elements.{All-head, All-tail, All-take}
 use Rattle.std.proofs.lemmas.Str.{encode_ascii}
 use Rattle.std.proofs.lemmas.Str.Ascii.{IsAscii-from_all}
 use Rattle.std.specs.Str.{IsAscii}
@@ -27,14 +26,11 @@ name_text-ascii (u ∷ v ∷ units) h =
     rw (no_pair u v low, itself u low, encode_ascii u low) (ap (λ t. u ∷ t) (name_text-ascii (v ∷ units) (All-tail (λ u. u < 128) u (v ∷ units) h)))
 
 -- a copy of such units is their text
-pub copied-whole : (units copy : List ℕ) (n : ℕ) → n ≡ length units → take n copy ≡ take n units → All (λ u. u < 128) (take n units)
-    → take (length units) copy ≡ name_text units
-copied-whole units copy n is same low =
-    let whole : take n units ≡ units = take_all n units (omega arith) in
-    ap (λ m. take m copy) (sym is) ∙ same ∙ whole ∙ sym (name_text-ascii units (subst (λ us. All (λ u. u < 128) us) whole low))
+pub copied-whole : (text units copy : List ℕ) → take (length text) units ≡ text → copy ≡ units → All (λ u. u < 128) units → take (length text) copy ≡ name_text text
+copied-whole text units copy front same low =
+    ap (take (length text)) same ∙ front ∙ sym (name_text-ascii text (subst (λ us. All (λ u. u < 128) us) front (All-take (λ u. u < 128) (length text) units low)))
 
 -- and in ASCII
-pub copied-ascii : (units copy : List ℕ) (n : ℕ) → n ≡ length units → take n copy ≡ take n units → All (λ u. u < 128) (take n units)
-    → IsAscii (take (length units) copy)
-copied-ascii units copy n is same low =
-    IsAscii-from_all (take (length units) copy) (subst (λ us. All (λ u. u < 128) us) (sym same ∙ ap (λ m. take m copy) is) low)
+pub copied-ascii : (text units copy : List ℕ) → copy ≡ units → All (λ u. u < 128) units → IsAscii (take (length text) copy)
+copied-ascii text units copy same low =
+    IsAscii-from_all (take (length text) copy) (All-take (λ u. u < 128) (length text) copy (subst (λ us. All (λ u. u < 128) us) (sym same) low))

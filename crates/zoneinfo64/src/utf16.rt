@@ -1,5 +1,5 @@
 //! UTF-16 that may have surrogates without a partner.
-ghost use Rattle.std.specs.Prelude.{IsTrue, IfOk, take, length, ◌≤◌, ◌≡◌, ◌&&◌, ◌∷◌, [], Some, None, IfSome, IfNone, if◌then◌else◌};
+ghost use Rattle.std.specs.Prelude.{IsTrue, IfOk, All, take, length, ◌<◌, ◌≤◌, ◌≡◌, ◌&&◌, ◌∷◌, [], Some, None, IfSome, IfNone, if◌then◌else◌};
 ghost use Rattle.std.specs.Option.{unwrap_or};
 ghost use Rattle.std.specs.Char.Utf16.{utf16_lossy_chars, lone_unit_char, is_high_surrogate, is_low_surrogate, surrogate_pair_char};
 ghost use Rattle.std.specs.Iterator.{YieldsFirst, item_count};
@@ -45,6 +45,20 @@ impl Model for PotentialUtf16 {
     ghost invariant = { λ a. IsSpelling a.spelling };
 }
 
+/// Copies units as bytes, and tells whether all are in ASCII; if not, what is copied means nothing. It goes through the room
+/// as a whole, without a branch, so that many units are copied at once.
+fn copy_ascii(units: &[u16; 32], bytes: &mut [u8; 32]) -> bool
+    ensures same { IsTrue result → bytes.new ≡ units.now }
+    ensures ascii { IsTrue result → All (λ u. u < 128) units.now }
+{
+    let mut greatest = 0;
+    for at in 0..32 {
+        greatest = units[at].max(greatest);
+        bytes[at] = (units[at] % 128) as u8;
+    }
+    greatest < 128
+}
+
 /// Copies a text of at most 32 units in ASCII, as units and as bytes; whether it is one.
 fn copy_short(text: &TextRef<'_>, units: &mut [u16; 32], bytes: &mut [u8; 32]) -> bool
     ensures units { IsTrue result → take (length text.now) units.new ≡ text.now }
@@ -52,21 +66,11 @@ fn copy_short(text: &TextRef<'_>, units: &mut [u16; 32], bytes: &mut [u8; 32]) -
     ensures ascii { IsTrue result → IsAscii (take (length text.now) bytes.new) }
     ensures short { IsTrue result → length text.now ≤ 32 }
 {
-    let len = text.len();
-    if len > 32 {
+    if text.len() > 32 {
         return false;
     }
-    for at in 0..len {
-        let Some(unit) = text.get(at) else {
-            return false;
-        };
-        if unit >= 128 {
-            return false;
-        }
-        units[at] = unit;
-        bytes[at] = unit as u8;
-    }
-    true
+    text.copy_to(units);
+    copy_ascii(units, bytes)
 }
 
 impl PotentialUtf16 {

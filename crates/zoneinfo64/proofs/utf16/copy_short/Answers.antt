@@ -1,9 +1,8 @@
-use Rattle.std.proofs.Common.{arith}
 use Rattle.zoneinfo64.proofs.AsciiNames.{copied-whole, copied-ascii}
 use Rattle.zoneinfo64.proofs.utf16.copy_short.Goals as goal
 
 pub returns-clause-bytes : goal.returns-clause-bytes
-returns-clause-bytes c = λ _. copied-whole c.args.text.now c.loop-at.bytes c.loop-at.at (omega arith) c.loop-at.invariant.bytes c.loop-at.invariant.ascii
+returns-clause-bytes c = λ t. copied-whole c.args.text.now c.copy_to.new.units c.copy_ascii.new.bytes c.copy_to.ensures (c.copy_ascii.ensures.same t) (c.copy_ascii.ensures.ascii t)
 
 pub returns-clause-ascii : goal.returns-clause-ascii
-returns-clause-ascii c = λ _. copied-ascii c.args.text.now c.loop-at.bytes c.loop-at.at (omega arith) c.loop-at.invariant.bytes c.loop-at.invariant.ascii
+returns-clause-ascii c = λ t. copied-ascii c.args.text.now c.copy_to.new.units c.copy_ascii.new.bytes (c.copy_ascii.ensures.same t) (c.copy_ascii.ensures.ascii t)
