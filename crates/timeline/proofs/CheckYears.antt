@@ -1,7 +1,7 @@
 -- The years of a rule by their kinds: what one year of each kind keeps, all years keep.
-use Rattle.std.proofs.Common.{◌≡◌, ℕ, zero, suc, ◌<◌, true, false, Ok, refl, sym, ap, subst, ◌∙◌, ℤ, pos, ◌+ℤ◌, ◌-ℤ◌, ◌*ℤ◌, ◌≤ℤ◌, cond, arith}
+use Rattle.std.proofs.Common.{◌≡◌, ℕ, zero, suc, ◌<◌, ◌≤◌, Bool, true, false, Ok, refl, sym, ap, subst, ◌∙◌, ℤ, pos, ◌+ℤ◌, ◌-ℤ◌, ◌*ℤ◌, ◌≤ℤ◌, cond, arith}
 use Rattle.std.proofs.lemmas.Int.{ints}
-use Rattle.civil.specs.Calendar.{days_in_year, year_start, year_kind, year_second, example_year}
+use Rattle.civil.specs.Calendar.{is_leap_year, days_in_year, year_kind, year_second, example_year}
 use Rattle.civil.proofs.CalendarLemmas.{year_start-next}
 use Rattle.civil.proofs.YearKinds.{same_kind, kind_below, kind_of_example, kind_occurs}
 use Rattle.timeline.specs.declared.fault.ZoneFault.{ZoneFault}
@@ -143,6 +143,14 @@ example_seconds (suc (suc (suc (suc (suc (suc (suc (suc (suc (suc (suc (suc (suc
 
 pub example_high : (k : ℕ) → k < 14 → year_second (example_year k) +ℤ kind_seconds k ≡ year_second (example_year k +ℤ pos 1)
 example_high k h = omega (arith, ints, example_seconds k h, year_start-next (example_year k))
+
+-- a year has 365 days or more
+pub year_long : (y : ℤ) → (year_second y +ℤ pos 31536000) ≤ℤ year_second (y +ℤ pos 1)
+year_long y = omega (arith, ints, year_start-next y, days (is_leap_year y))
+  where
+    days : (l : Bool) → 365 ≤ cond l 366 365
+    days true = omega arith
+    days false = omega arith
 
 -- what holds of the example of each kind holds of all years
 pub years_told : (r : PlainRule) (t : Told) → r.first_year ≤ℤ pos 134217727

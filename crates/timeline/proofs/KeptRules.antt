@@ -1,5 +1,5 @@
 -- The transitions of a year, from what is kept of a rule.
-use Rattle.std.proofs.Common.{◌≡◌, ℕ, ◌<◌, ◌==◌, Bool, true, false, not, cond, get_or, List, refl, ap, ◌∙◌, ℤ, pos, ◌+ℤ◌, arith}
+use Rattle.std.proofs.Common.{◌≡◌, ℕ, ◌<◌, ◌==◌, Bool, true, false, not, cond, get_or, List, refl, ap, ◌∙◌, ℤ, pos, ◌+ℤ◌, ◌≤ℤ◌, arith}
 use Rattle.std.specs.Ordering.{int_eq}
 use Rattle.std.proofs.lemmas.Int.{ints}
 use Rattle.std.proofs.lemmas.List.FromFn.{get_or-map-range_with_len}
@@ -10,15 +10,23 @@ use Rattle.timeline.specs.declared.rule.TimeMode.{TimeMode}
 use Rattle.timeline.specs.declared.rule.TimeMode.TheVariants.{Wall, Standard, Utc}
 use Rattle.timeline.specs.declared.rule.KindDate.{KindDate}
 use Rattle.timeline.specs.Zone.{DateRule, PlainRule}
+use Rattle.timeline.specs.RuleDays.{rule_date}
 use Rattle.timeline.specs.Rule.{rule_second, start_is_first, start_entry, end_entry, first_entry, second_entry}
 use Rattle.timeline.specs.DateView.{mode_number}
 use Rattle.timeline.specs.Kinds.{place_in_kind}
-use Rattle.timeline.specs.Inside.KeptRules.{places_of, time_mode, kind_date, KeptRule, kept_rule, taken_off, kind_second, kept_start, kept_end}
+use Rattle.timeline.specs.Inside.KeptRules.{places_of, time_mode, kind_date, KeptRule, kept_rule, taken_off, kind_second, kept_start, kept_end, LieWithin}
 use Rattle.timeline.proofs.RuleKinds.{rule_date-place}
 
 pub places_of-at : (r : DateRule) (k : ℕ) → k < 14 → get_or (places_of r) k (pos 0) ≡ place_in_kind r k
 unfolding places_of
 places_of-at r k h = get_or-map-range_with_len (place_in_kind r) 0 14 k k (pos 0) h (omega arith)
+
+-- where the places lie within, so does the date of each year
+pub date_within : (r : DateRule) (from to y : ℤ) → LieWithin (places_of r) from to → ((year_start y +ℤ from) ≤ℤ rule_date r y) × (rule_date r y ≤ℤ (year_start y +ℤ to))
+date_within r from to y within =
+    let place = places_of-at r (year_kind y) (kind_below y) in
+    let h = within (year_kind y) (kind_below y) in
+    (omega (arith, ints, rule_date-place r y, place, h.0), omega (arith, ints, rule_date-place r y, place, h.1))
 
 mode_is : (a b : Bool) (before raw : ℤ) → taken_off (cond a Wall (cond b Standard Utc)) before raw ≡ cond a before (cond b raw (pos 0))
 mode_is true b before raw = refl

@@ -1,11 +1,14 @@
 //! The yearly rule of a zone, kept by kinds of year. Only `year_at` tells a year's transitions.
-ghost use Rattle.std.specs.Prelude.{◌≡◌, ◌+◌, ◌<◌, ℤ, pos, negsuc, ◌+ℤ◌, ◌-ℤ◌, ◌*ℤ◌, ◌<ℤ◌, ◌≤ℤ◌, if◌then◌else◌, not};
+ghost use Rattle.std.specs.Prelude.{◌≡◌, ◌+◌, ◌<◌, ℤ, pos, negsuc, ◌+ℤ◌, ◌-ℤ◌, ◌*ℤ◌, ◌<ℤ◌, ◌≤ℤ◌, IsTrue, if◌then◌else◌, not};
 ghost use Rattle.std.specs.Ordering.{int_eq};
 ghost use Rattle.timeline.specs.Zone.{fits_i32};
 ghost use Rattle.timeline.specs.Zone.{PlainRule};
+ghost use Rattle.civil.specs.Calendar.{year_second};
+ghost use Rattle.timeline.specs.TableLaws.{IsSmall};
 ghost use Rattle.timeline.specs.Rule.{first_entry, second_entry};
 ghost use Rattle.timeline.specs.Timeline.{offset_of};
-ghost use Rattle.timeline.specs.Inside.KeptRules.{KeptRule, kept_rule, kind_second, taken_off, kept_start, kept_end, IsYearOf};
+ghost use Rattle.timeline.specs.Inside.KeptRules.{KeptRule, kept_rule, kind_second, taken_off, kept_start, kept_end, IsYearOf, LieWithin};
+ghost use Rattle.timeline.specs.Inside.Apart.{LieApart};
 
 use crate::offset::{Offset, Transition, UtcOffset};
 use civil::{days_before_year, year_kind};
@@ -159,6 +162,19 @@ impl KindDate {
         }
     }
 
+    /// Whether the places of the date in years of all kinds lie from one place to another. A loop
+    /// that goes to all of them is faster than one that ends at the first that does not.
+    fn lies_within(&self, from: i16, to: i16) -> bool
+        ensures { IsTrue result → LieWithin self.now.places from to }
+    {
+        let mut within = true;
+        for kind in 0..14 {
+            let place = self.places[kind];
+            within &= (from <= place) & (place <= to);
+        }
+        within
+    }
+
     /// The second of the date in a year of that first day and kind.
     fn second(&self, before: i32, raw: i32, start: i64, kind: u8) -> i64
         requires kind { kind < 14 }
@@ -169,6 +185,16 @@ impl KindDate {
         let taken = self.mode.taken_off(before, raw);
         second_in(start, self.places[kind as usize], self.seconds, taken)
     }
+}
+
+/// Whether the places of one date lie in the first half of a year and those of another in the other
+/// half, some days from its ends.
+fn lie_in_halves(first: &KindDate, second: &KindDate) -> bool
+    ensures { IsTrue result
+        → LieWithin first.now.places (pos 2) (pos 180)
+        × LieWithin second.now.places (pos 185) (pos 362) }
+{
+    first.lies_within(2, 180) && second.lies_within(185, 362)
 }
 
 impl YearRule {
@@ -291,5 +317,22 @@ impl YearRule {
             self.start_in(day, kind),
             self.end_in(day, kind),
         )
+    }
+
+    /// Whether a year's first date lies in the first half of the year and its second one in the other
+    /// half, in years of all kinds and some days from their ends. Then the transitions of each year
+    /// lie apart, since the offsets are less than a day; those of other rules may do so too.
+    pub(crate) fn places_lie_apart(&self) -> bool
+        requires raw { IsSmall self.now.raw }
+        requires sum { IsSmall (self.now.raw +ℤ self.now.extra) }
+        ensures { IsTrue result → (r : PlainRule) (y : ℤ) → self.now ≡ kept_rule r
+            → LieApart (year_second y) (first_entry r y).since (second_entry r y).since
+            (year_second (y +ℤ pos 1)) }
+    {
+        if self.start_is_first {
+            lie_in_halves(&self.start, &self.end)
+        } else {
+            lie_in_halves(&self.end, &self.start)
+        }
     }
 }

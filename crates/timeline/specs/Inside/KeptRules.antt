@@ -1,5 +1,5 @@
 -- What is kept of a yearly rule to tell its years by their kinds. Serves private contracts alone.
-use Rattle.std.specs.Prelude.{◌≡◌, ℕ, ◌==◌, Bool, false, not, if◌then◌else◌, List, map, slice_index_or, ℤ, pos, ◌+ℤ◌, ◌-ℤ◌, ◌*ℤ◌}
+use Rattle.std.specs.Prelude.{◌≡◌, ℕ, ◌<◌, ◌==◌, Bool, false, not, if◌then◌else◌, List, map, slice_index_or, ℤ, pos, ◌+ℤ◌, ◌-ℤ◌, ◌*ℤ◌, ◌≤ℤ◌}
 use Rattle.std.specs.Ordering.{int_eq}
 use Rattle.std.specs.List.{range_with_len}
 use Rattle.civil.specs.Calendar.{year_start, year_kind}
@@ -72,3 +72,7 @@ kept_start r start k = record {
 -- the end's transition in a year that begins on this day and is of this kind
 abbrev pub kept_end : KeptRule → ℤ → ℕ → Transition
 kept_end r start k = record { since = kind_second r.end (r.raw +ℤ r.extra) r.raw start k; offset = r.raw; rule_applies = false }
+
+-- the places in years of all kinds lie from one place to another
+abbrev pub LieWithin : List ℤ → ℤ → ℤ → Type 0
+LieWithin places from to = (k : ℕ) → k < 14 → (from ≤ℤ slice_index_or places k (pos 0)) × (slice_index_or places k (pos 0) ≤ℤ to)

@@ -1,7 +1,7 @@
 //! Entries that lie days apart, as nearly all do: their seconds alone show that they keep the laws.
 ghost use Rattle.std.specs.Prelude.{◌≡◌, ◌+◌, ◌<◌, ◌≤◌, ◌↔◌, IsTrue, IfSome, nat_lt, nat_le, length, ℤ, pos, negsuc, ◌+ℤ◌, ◌<ℤ◌, ◌≤ℤ◌};
 ghost use Rattle.timeline.specs.Inside.CheckSteps.{InPart};
-ghost use Rattle.timeline.specs.Inside.Apart.{IsApart, AreSmall, LieApart};
+ghost use Rattle.timeline.specs.Inside.Apart.{IsApart, AreSmall};
 
 use super::{is_in_part, is_late};
 use crate::data::ZoneData;
@@ -68,15 +68,4 @@ pub fn shows_laws(zone: &ZoneData, n: usize, previous: i64, second: i64, end: i6
         × (IsApart previous second × (second <ℤ (end +ℤ pos 172800))) }
 {
     lie_days_apart(previous, second, end) && lies_in_part(zone, n, second)
-}
-
-/// Whether two transitions of a year, with its first second and that of the next year, lie a day or
-/// more from its ends and two days or more from each other. Some that do not keep the laws too.
-pub fn lie_apart(low: i64, first: i64, second: i64, high: i64) -> bool
-    requires low { low <ℤ pos 100000000000000000 }
-    requires high { negsuc 100000000000000000 <ℤ high }
-    ensures { IsTrue result → LieApart low first second high }
-{
-    lies_between(low + 86_400, first, high - 259_200)
-        && lies_between(first + 172_800, second, high - 86_400)
 }

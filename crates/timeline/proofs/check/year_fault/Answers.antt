@@ -1,44 +1,15 @@
 use Rattle.std.proofs.Common.{◌≡◌, pos, ◌+ℤ◌, to_z, of_z, to_z-of_z, FitsSigned, w32, w64, ap, ◌∙◌, rules, arith}
 use Rattle.civil.specs.Calendar.{year_second, example_year}
 use Rattle.jiff_core.proofs.SignedLemmas.{signed_arith}
-use Rattle.timeline.specs.declared.offset.Transition.{Transition}
 use Rattle.timeline.specs.Rule.{first_entry, second_entry}
 use Rattle.timeline.specs.Timeline.{offset_of}
 use Rattle.timeline.specs.Neighbours.{step}
-use Rattle.timeline.specs.Inside.KeptRules.{KeptRule}
 use Rattle.timeline.specs.Inside.CheckSteps.{walls}
-use Rattle.timeline.proofs.KeptRules.{kept-raw, kept-sum}
-use Rattle.timeline.proofs.CheckLaws.{small_moved}
 use Rattle.timeline.proofs.CheckYears.{year_told, example_high}
-use Rattle.timeline.proofs.YearsApart.{year_shown-by}
 use Rattle.timeline.proofs.check.year_fault.Goals as goal
 
 pub overflow_add-high : goal.overflow_add-high
 overflow_add-high g c = omega (arith, signed_arith, c.first_second-low.ensures.low, c.first_second-low.ensures.high, c.seconds_of_kind.ensures.low, c.seconds_of_kind.ensures.high)
-
-pub lie_apart-requires-clause-high : goal.lie_apart-requires-clause-high
-lie_apart-requires-clause-high g c = omega (arith, signed_arith, c.first_second-low.ensures.low, c.first_second-low.ensures.high, c.seconds_of_kind.ensures.low, c.seconds_of_kind.ensures.high)
-
-pub returns-then-lie_apart-clause-value : goal.returns-then-lie_apart-clause-value
-returns-then-lie_apart-clause-value g c = λ r is.
-    let k = c.args.kind in
-    let y = example_year k in
-    let year_fits : FitsSigned w32 c.example_year-year.result = search rules in
-    let year : to_z w32 (of_z w32 c.example_year-year.result) ≡ y = to_z-of_z year_fits ∙ c.example_year-year.ensures.value in
-    let first = c.year_at-before.ensures.first r is ∙ ap (first_entry r) year in
-    let second = c.year_at-before.ensures.second r is ∙ ap (second_entry r) year in
-    let first_fits : FitsSigned w64 c.year_at-before.result.1.since = search rules in
-    let second_fits : FitsSigned w64 c.year_at-before.result.2.since = search rules in
-    let low_fits : FitsSigned w64 c.first_second-low.result = search rules in
-    let low = to_z w64 (of_z w64 c.first_second-low.result) in
-    let high = to_z w64 (of_z w64 (low +ℤ to_z w64 (of_z w64 c.seconds_of_kind.result))) in
-    let low_is : low ≡ year_second y = to_z-of_z low_fits ∙ c.first_second-low.ensures.value ∙ ap year_second year in
-    let high_is : high ≡ year_second (y +ℤ pos 1) = omega (arith, signed_arith, low_is, c.first_second-low.ensures.low, c.first_second-low.ensures.high, c.seconds_of_kind.ensures, example_high k c.requires.kind) in
-    let small = c.requires.small c.if-small.true in
-    year_shown-by r y low (to_z w64 (of_z w64 c.year_at-before.result.1.since)) (to_z w64 (of_z w64 c.year_at-before.result.2.since)) high low_is
-    (to_z-of_z first_fits ∙ ap (λ (e : Transition). e.since) first) (to_z-of_z second_fits ∙ ap (λ (e : Transition). e.since) second) high_is
-    (c.lie_apart.ensures c.if-lie_apart.true)
-    (small_moved _ _ (ap (λ (k : KeptRule). k.raw) is ∙ kept-raw r) small.0, small_moved _ _ (ap (λ (k : KeptRule). k.raw +ℤ k.extra) is ∙ kept-sum r) small.1)
 
 pub returns-clause-value : goal.returns-clause-value
 returns-clause-value g c = λ r is.
