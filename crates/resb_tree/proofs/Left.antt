@@ -19,7 +19,7 @@ use Rattle.resb_tree.specs.Tables.{key_at, entries_of, table_of, table16_at, tab
 use Rattle.resb_tree.specs.Tree.{by_type, tree_at, denoted}
 use Rattle.resb_tree.specs.Forms.{item_in, no_items, array_count, entry_in, no_entries, table_count}
 use Rattle.resb_tree.specs.Reading.{spent, short_span}
-use Rattle.resb_tree.specs.Inside.Places.{the_tree, root_there, key_there}
+use Rattle.resb_tree.specs.Inside.Places.{the_tree, root_there}
 use Rattle.resb_tree.specs.Inside.Checks.{keys_there, counted_left, short_text_left, items_left, array_left, key_left, entries_left, table_left, nested_left, typed_left, left_behind}
 use Rattle.resb_tree.proofs.Weights.{weight-Integer, weight-Integers, weight-Array, weight-Text, weight-Bytes, weight-Table}
 use Rattle.resb_tree.proofs.Runs.{length_run}

@@ -1,10 +1,8 @@
 -- Items and entries by where they stand.
-use Rattle.std.proofs.Common.{◌≡◌, ℕ, zero, suc, ◌+◌, ◌-◌, ◌*◌, ◌/◌, ◌%◌, ◌<◌, ◌≤◌, Bool, true, false, cond, leb, ltb, List, [], ◌∷◌, ◌++◌, length, take, drop, Option, Some, None, refl, ap, sym, subst, ◌∙◌, inl, inr, drop-cons, add-zero, add-one, arith}
-use Rattle.std.specs.Prelude.{slice_get, slice_index, map}
-use Rattle.std.specs.Str.{bytes_eq}
+use Rattle.std.proofs.Common.{◌≡◌, ℕ, zero, suc, ◌+◌, ◌-◌, ◌*◌, ◌/◌, ◌%◌, ◌<◌, ◌≤◌, Bool, true, false, cond, leb, ltb, List, [], ◌∷◌, Option, Some, None, refl, sym, ◌∙◌, inl, inr, arith}
+use Rattle.std.specs.Prelude.{slice_index, map}
+use Rattle.std.proofs.lemmas.Bool.{cases_eq}
 use Rattle.std.proofs.lemmas.Bool.Decides.{eqb_tells}
-use Rattle.std.proofs.lemmas.Option.{get_or_from_slice_get}
-use Rattle.std.proofs.lemmas.List.{take_more}
 use Rattle.resb_tree.specs.declared.resource.Resource.{Resource}
 use Rattle.resb_tree.specs.declared.resource.Resource.TheVariants as r
 use Rattle.resb_tree.specs.declared.forms.ArrayForm.{ArrayForm}
@@ -14,17 +12,66 @@ use Rattle.resb_tree.specs.declared.forms.TableForm.TheVariants as table
 use Rattle.resb_tree.specs.Words.{run, unit_in}
 use Rattle.resb_tree.specs.Keys.{distinct}
 use Rattle.resb_tree.specs.Contents.{items_in, entries_in}
-use Rattle.resb_tree.specs.Fields.{first_with}
-use Rattle.resb_tree.specs.Bodies.{◌>>=◌, when, Body, area_len, area_unit, counted}
+use Rattle.resb_tree.specs.Bodies.{◌>>=◌, when, Body, area_len, area_unit}
 use Rattle.resb_tree.specs.Arrays.{all_of}
 use Rattle.resb_tree.specs.Tables.{entries_of, key_at}
 use Rattle.resb_tree.specs.Tree.{by_type, tree_at}
 use Rattle.resb_tree.specs.Forms.{item_in, items_end, no_items, array_count, entry_in, no_entries, EntriesLie, table_count}
-use Rattle.resb_tree.specs.Inside.Places.{the_tree, the_list, tree_there, IsTree, items_there, AreItems, entries_there, AreEntries}
+use Rattle.resb_tree.specs.Inside.Places.{the_tree, the_list, tree_there, IsTree, key_there, items_there, AreItems, entries_there, AreEntries}
 use Rattle.resb_tree.specs.Inside.Parts.{items_count, entries_end, entries_count, array_form, table_form}
 use Rattle.resb_tree.proofs.Left.{array_by, long_array, short_array, table_by, narrow_table, wide_table, brief_table}
 use Rattle.resb_tree.proofs.Checks.{bind_some}
-use Rattle.resb_tree.proofs.LeafParts.{out_array, out_table, both_hold, below, at_most, count_here, tree_is}
+use Rattle.resb_tree.proofs.LeafParts.{out_array, out_table, both_hold, below, at_most, count_here, tree_is, items_none, entries_none}
+
+-- ---- what each of some values gives
+
+abbrev each_of : {A B : Type 0} → (A → Option B) → List A → Option (List B)
+each_of one [] = Some []
+each_of one (x ∷ xs) = one x >>= λ y. each_of one xs >>= λ ys. Some (y ∷ ys)
+
+all_is : (one : ℕ → Option Resource) (xs : List ℕ) → all_of one xs ≡ each_of one xs
+all_is one [] = refl
+all_is one (x ∷ xs) = rw (all_is one xs) refl
+
+abbrev both : (ℕ → Option (List ℕ)) → (ℕ → Option Resource) → ℕ × ℕ → Option (List ℕ × Resource)
+both key one e = key e.0 >>= λ n. one e.1 >>= λ x. Some (n, x)
+
+entries_are : (key : ℕ → Option (List ℕ)) (one : ℕ → Option Resource) (es : List (ℕ × ℕ)) → entries_of key one es ≡ each_of (both key one) es
+entries_are key one [] = refl
+entries_are key one (e ∷ es) = rw (entries_are key one es) (by (key e.0) (one e.1) (each_of (both key one) es))
+  where
+    by : (name : Option (List ℕ)) (value : Option Resource) (others : Option (List (List ℕ × Resource)))
+        → (name >>= λ n. value >>= λ x. others >>= λ es. Some ((n, x) ∷ es)) ≡ ((name >>= λ n. value >>= λ x. let e : List ℕ × Resource = (n, x) in Some e) >>= λ e. others >>= λ es. Some (e ∷ es))
+    by None value others = refl
+    by (Some n) None others = refl
+    by (Some n) (Some x) others = refl
+
+-- where each gave something, these are what they gave
+each_found : {A B : Type 0} (one : A → Option B) (the : A → B) → ((x : A) (y : B) → one x ≡ Some y → the x ≡ y) → (at : ℕ → A) (from count : ℕ) (ys : List B) → each_of one (run at from count) ≡ Some ys
+    → (run (λ k. the (at k)) from count ≡ ys) × ((k : ℕ) → from ≤ k → k < from + count → one (at k) ≡ Some (the (at k)))
+each_found one the sure at from zero ys h = let e : [] ≡ ys = cc in (e, λ k low high. absurd (omega arith))
+each_found one the sure at from (suc count) ys h =
+    let y = bind_some (one (at from)) _ ys h in
+    let others = bind_some (each_of one (run at (from + 1) count)) _ ys y.1.1 in
+    let e : y.0 ∷ others.0 ≡ ys = let f : Some (y.0 ∷ others.0) ≡ Some ys = others.1.1 in cc in
+    let more = each_found one the sure at (from + 1) count others.0 others.1.0 in
+    let first : the (at from) ≡ y.0 = sure (at from) y.0 y.1.0 in (
+      rw (first, more.0) e,
+      λ k low high. elim (cases_eq k from) [
+        | inl here ↦ rw (here, first) y.1.0
+        | inr later ↦ more.1 k (omega arith) (omega arith)
+      ],
+    )
+
+record BothFound (key : Option (List ℕ)) (tree : Option Resource) (y : List ℕ × Resource) : Type 0 where
+  is_key : key ≡ Some (the_list key)
+  is_tree : tree ≡ Some (the_tree tree)
+  there : (the_list key, the_tree tree) ≡ y
+
+both_found : (key : Option (List ℕ)) (tree : Option Resource) (y : List ℕ × Resource) → (key >>= λ n. tree >>= λ x. let e : List ℕ × Resource = (n, x) in Some e) ≡ Some y → BothFound key tree y
+both_found None tree y h = cc
+both_found (Some n) None y h = cc
+both_found (Some n) (Some x) y h = let e : (n, x) ≡ y = cc in record { is_key = refl; is_tree = refl; there = e }
 
 -- ---- items
 
@@ -68,12 +115,11 @@ array_here : (b : Body) (form : ArrayForm) (levels : ℕ) (t : Resource) (v : �
 array_here b form levels t v pos h =
     let f = array_found (no_items form v) (array_count form b v) (λ n. all_of (tree_at b levels) (run (item_in form b) (v + 1) n)) t refl h in
     let c = items_counted form b v f.n pos f.counted in
-    let all : all_of (tree_at b levels) (run (item_in form b) (v + 1) (items_count form b v)) ≡ Some f.xs = rw c.2 f.all in
-    let there : items_there b form levels (v + 1) (items_count form b v) ≡ f.xs = rw all refl in
+    let each = each_found (tree_at b levels) (tree_there b levels) (λ x y e. rw e refl) (item_in form b) (v + 1) f.n f.xs (sym (all_is (tree_at b levels) (run (item_in form b) (v + 1) f.n)) ∙ f.all) in
     record {
       low = c.0;
-      are = record { lie = rw c.2 c.1; all = all ∙ ap (λ (xs : List Resource). Some xs) (sym there) };
-      is = ap (λ (xs : List Resource). r.Array xs) there ∙ f.is;
+      are = rw c.2 (record { lie = c.1; each = λ k lt. each.1 (v + 1 + k) (omega arith) (omega arith) });
+      is = rw (c.2, each.0) f.is;
     }
 
 -- a type of arrays denotes what its form tells
@@ -90,34 +136,6 @@ typed_array one b t v form h = elim (eqb_tells t 8) [
 pub array_there : (b : Body) (levels item : ℕ) (form : ArrayForm) → IsTree b levels item → 0 < b.end → Some form ≡ array_form (item / 268435456) → ArrayHere b form (levels - 1) (tree_there b levels item) (item % 268435456)
 array_there b levels item form h pos e =
     array_here b form (levels - 1) (tree_there b levels item) (item % 268435456) pos (sym (typed_array (tree_at b (levels - 1)) b (item / 268435456) (item % 268435456) form e) ∙ (tree_is b levels item h).typed)
-
--- what stands at a place of what was found
-pub record ItemHere (one : ℕ → Option Resource) (item : ℕ) (xs : List Resource) (k : ℕ) : Type 0 where
-  pub tree : one item ≡ Some (the_tree (one item))
-  pub got : slice_get xs k ≡ Some (the_tree (one item))
-
-pub item_here : (one : ℕ → Option Resource) (at : ℕ → ℕ) (from count : ℕ) (xs : List Resource) (k : ℕ) → all_of one (run at from count) ≡ Some xs → k < count → ItemHere one (at (from + k)) xs k
-item_here one at from zero xs k h lt = absurd (omega arith)
-item_here one at from (suc count) xs k h lt =
-    let x = bind_some (one (at from)) _ xs h in
-    let others = bind_some (all_of one (run at (from + 1) count)) _ xs x.1.1 in
-    let e : x.0 ∷ others.0 ≡ xs = let f : Some (x.0 ∷ others.0) ≡ Some xs = others.1.1 in cc in
-    rw (← e) (by k lt x.0 x.1.0 others.0 (λ j below. item_here one at (from + 1) count others.0 j others.1.0 below))
-  where
-    by : (k : ℕ) → k < suc count → (x : Resource) → one (at from) ≡ Some x → (others : List Resource) → ((j : ℕ) → j < count → ItemHere one (at (from + 1 + j)) others j) → ItemHere one (at (from + k)) (x ∷ others) k
-    by zero lt x e others rest = rw add-zero (record { tree = rw e refl; got = rw e refl })
-    by (suc j) lt x e others rest =
-        let k : from + suc j ≡ from + 1 + j = omega arith in
-        let there = rest j (omega arith) in
-        rw k (record { tree = there.tree; got = there.got })
-
-pub items_length : (one : ℕ → Option Resource) (at : ℕ → ℕ) (from count : ℕ) (xs : List Resource) → all_of one (run at from count) ≡ Some xs → length xs ≡ count
-items_length one at from zero xs h = let e : [] ≡ xs = cc in rw (← e) refl
-items_length one at from (suc count) xs h =
-    let x = bind_some (one (at from)) _ xs h in
-    let others = bind_some (all_of one (run at (from + 1) count)) _ xs x.1.1 in
-    let e : x.0 ∷ others.0 ≡ xs = let f : Some (x.0 ∷ others.0) ≡ Some xs = others.1.1 in cc in
-    rw (← e) (ap suc (items_length one at (from + 1) count others.0 others.1.0))
 
 -- ---- entries
 
@@ -174,12 +192,15 @@ table_here : (b : Body) (form : TableForm) (levels : ℕ) (t : Resource) (v : �
 table_here b form levels t v pos h =
     let f = table_found (no_entries form v) (table_count form b v) (λ n. entries_of (key_at b) (tree_at b levels) (run (entry_in form b v n) 0 n)) t refl h in
     let c = entries_counted form b v f.n pos f.counted in
-    let all : entries_of (key_at b) (tree_at b levels) (run (entry_in form b v (entries_count form b v)) 0 (entries_count form b v)) ≡ Some f.xs = rw c.2 f.all in
-    let there : entries_there b form levels v (entries_count form b v) ≡ f.xs = rw all refl in
+    let key = key_at b in
+    let one = tree_at b levels in
+    let at = entry_in form b v f.n in
+    let each = each_found (both key one) (λ e. (key_there b e.0, tree_there b levels e.1)) (λ e y h. (both_found (key e.0) (one e.1) y h).there) at 0 f.n f.xs (sym (entries_are key one (run at 0 f.n)) ∙ f.all) in
+    let here = λ (k : ℕ) (lt : k < f.n). both_found (key (at k).0) (one (at k).1) _ (each.1 k (omega arith) (omega arith)) in
     record {
       low = c.0;
-      are = record { lie = rw c.2 c.1; all = all ∙ ap (λ (xs : List (List ℕ × Resource)). Some xs) (sym there) };
-      is = ap (λ (xs : List (List ℕ × Resource)). r.Table xs) there ∙ f.is;
+      are = rw c.2 (record { lie = c.1; keys = λ k lt. (here k lt).is_key; trees = λ k lt. (here k lt).is_tree });
+      is = rw (c.2, each.0) f.is;
     }
 
 -- a type of tables denotes what its form tells
@@ -200,86 +221,7 @@ pub table_there : (b : Body) (levels item : ℕ) (form : TableForm) → IsTree b
 table_there b levels item form h pos e =
     table_here b form (levels - 1) (tree_there b levels item) (item % 268435456) pos (sym (typed_table (tree_at b (levels - 1)) b (item / 268435456) (item % 268435456) form e) ∙ (tree_is b levels item h).typed)
 
--- what stands at a place of the entries that were found
-pub record EntryHere (key : ℕ → Option (List ℕ)) (one : ℕ → Option Resource) (entry : ℕ × ℕ) (xs : List (List ℕ × Resource)) (k : ℕ) : Type 0 where
-  pub name : key entry.0 ≡ Some (the_list (key entry.0))
-  pub tree : one entry.1 ≡ Some (the_tree (one entry.1))
-  pub got : slice_get xs k ≡ Some (the_list (key entry.0), the_tree (one entry.1))
+-- what shows arrays and tables in place
+pub ruleset seen_items = (tree_is, items_none, array_there, array_items)
 
-pub entry_here : (key : ℕ → Option (List ℕ)) (one : ℕ → Option Resource) (at : ℕ → ℕ × ℕ) (from count : ℕ) (xs : List (List ℕ × Resource)) (k : ℕ) → entries_of key one (run at from count) ≡ Some xs → k < count
-    → EntryHere key one (at (from + k)) xs k
-entry_here key one at from zero xs k h lt = absurd (omega arith)
-entry_here key one at from (suc count) xs k h lt =
-    let n = bind_some (key (at from).0) _ xs h in
-    let x = bind_some (one (at from).1) _ xs n.1.1 in
-    let others = bind_some (entries_of key one (run at (from + 1) count)) _ xs x.1.1 in
-    let e : (n.0, x.0) ∷ others.0 ≡ xs = let f : Some ((n.0, x.0) ∷ others.0) ≡ Some xs = others.1.1 in cc in
-    rw (← e) (by k lt n.0 n.1.0 x.0 x.1.0 others.0 (λ j below. entry_here key one at (from + 1) count others.0 j others.1.0 below))
-  where
-    by : (k : ℕ) → k < suc count → (n : List ℕ) → key (at from).0 ≡ Some n → (x : Resource) → one (at from).1 ≡ Some x → (others : List (List ℕ × Resource))
-        → ((j : ℕ) → j < count → EntryHere key one (at (from + 1 + j)) others j) → EntryHere key one (at (from + k)) ((n, x) ∷ others) k
-    by zero lt n d x e others rest = rw add-zero (record { name = rw d refl; tree = rw e refl; got = rw (d, e) refl })
-    by (suc j) lt n d x e others rest =
-        let k : from + suc j ≡ from + 1 + j = omega arith in
-        let there = rest j (omega arith) in
-        rw k (record { name = there.name; tree = there.tree; got = there.got })
-
-pub entries_length : (key : ℕ → Option (List ℕ)) (one : ℕ → Option Resource) (at : ℕ → ℕ × ℕ) (from count : ℕ) (xs : List (List ℕ × Resource)) → entries_of key one (run at from count) ≡ Some xs → length xs ≡ count
-entries_length key one at from zero xs h = let e : [] ≡ xs = cc in rw (← e) refl
-entries_length key one at from (suc count) xs h =
-    let n = bind_some (key (at from).0) _ xs h in
-    let x = bind_some (one (at from).1) _ xs n.1.1 in
-    let others = bind_some (entries_of key one (run at (from + 1) count)) _ xs x.1.1 in
-    let e : (n.0, x.0) ∷ others.0 ≡ xs = let f : Some ((n.0, x.0) ∷ others.0) ≡ Some xs = others.1.1 in cc in
-    rw (← e) (ap suc (entries_length key one at (from + 1) count others.0 others.1.0))
-
--- ---- the first entry with a key
-
-from_here : (es : List (List ℕ × Resource)) (k : ℕ) (e : List ℕ × Resource) → k < length es → slice_get es k ≡ Some e → drop k es ≡ e ∷ drop (k + 1) es
-from_here es k e lt h = drop-cons es k e lt ∙ rw (get_or_from_slice_get es k e e h, add-one) refl
-
-pub field_here : (key : List ℕ) (es : List (List ℕ × Resource)) (k : ℕ) (e : List ℕ × Resource) → k < length es → slice_get es k ≡ Some e → bytes_eq e.0 key ≡ true → Some e.1 ≡ first_with key (drop k es)
-field_here key es k e lt h same = rw (from_here es k e lt h, same) refl
-
-pub field_on : (key : List ℕ) (es : List (List ℕ × Resource)) (k : ℕ) (e : List ℕ × Resource) → k < length es → slice_get es k ≡ Some e → bytes_eq e.0 key ≡ false → first_with key (drop (k + 1) es) ≡ first_with key (drop k es)
-field_on key es k e lt h other = rw (from_here es k e lt h, other) refl
-
-pub field_none : (key : List ℕ) (es : List (List ℕ × Resource)) (k : ℕ) → length es ≤ k → None ≡ first_with key (drop k es)
-field_none key [] zero le = refl
-field_none key [] (suc k) le = refl
-field_none key (e ∷ es) zero le = absurd (omega arith)
-field_none key (e ∷ es) (suc k) le = field_none key es k (omega arith)
-
--- ---- units at a place
-
-pub run_get : (at : ℕ → ℕ) (from count k : ℕ) → k < count → Some (at (from + k)) ≡ slice_get (run at from count) k
-run_get at from zero k lt = absurd (omega arith)
-run_get at from (suc count) zero lt = rw add-zero refl
-run_get at from (suc count) (suc k) lt = let e : from + suc k ≡ from + 1 + k = omega arith in rw e (run_get at (from + 1) count k (omega arith))
-
-pub run_past : (at : ℕ → ℕ) (from count k : ℕ) → count ≤ k → None ≡ slice_get (run at from count) k
-run_past at from zero zero le = refl
-run_past at from zero (suc k) le = refl
-run_past at from (suc count) zero le = absurd (omega arith)
-run_past at from (suc count) (suc k) le = run_past at (from + 1) count k (omega arith)
-
--- ---- what is known of items and entries
-
-pub item_there : (b : Body) (form : ArrayForm) (levels from count k : ℕ) → AreItems b form levels from count → k < count → ItemHere (tree_at b levels) (item_in form b (from + k)) (items_there b form levels from count) k
-item_there b form levels from count k are lt = item_here (tree_at b levels) (item_in form b) from count (items_there b form levels from count) k are.all lt
-
-pub items_there_length : (b : Body) (form : ArrayForm) (levels from count : ℕ) → AreItems b form levels from count → length (items_there b form levels from count) ≡ count
-items_there_length b form levels from count are = items_length (tree_at b levels) (item_in form b) from count (items_there b form levels from count) are.all
-
-pub entry_there : (b : Body) (form : TableForm) (levels v count k : ℕ) → AreEntries b form levels v count → k < count → EntryHere (key_at b) (tree_at b levels) (entry_in form b v count k) (entries_there b form levels v count) k
-entry_there b form levels v count k are lt =
-    let e : 0 + k ≡ k = omega arith in
-    let P : ℕ → Type 0 = λ n. EntryHere (key_at b) (tree_at b levels) (entry_in form b v count n) (entries_there b form levels v count) k in
-    subst P e (entry_here (key_at b) (tree_at b levels) (entry_in form b v count) 0 count (entries_there b form levels v count) k are.all lt)
-
-pub entries_there_length : (b : Body) (form : TableForm) (levels v count : ℕ) → AreEntries b form levels v count → length (entries_there b form levels v count) ≡ count
-entries_there_length b form levels v count are = entries_length (key_at b) (tree_at b levels) (entry_in form b v count) 0 count (entries_there b form levels v count) are.all
-
--- one more was copied
-pub taken_more : {A : Type 0} (xs : List A) (k : ℕ) (x : A) (found more : List A) → k < length xs → slice_get xs k ≡ Some x → found ≡ take k xs → more ≡ found ++ x ∷ [] → more ≡ take (k + 1) xs
-taken_more xs k x found more lt there before pushed = pushed ∙ rw (before, take_more xs k x lt, get_or_from_slice_get xs k x x there) refl
+pub ruleset seen_entries = (tree_is, entries_none, table_there, table_entries)

@@ -1,17 +1,63 @@
 -- Values in a row, as a loop reads them.
-use Rattle.std.proofs.Common.{sym, add-one, drop-cons, ◌≡◌, get_or, take, drop, ℕ, zero, suc, ◌+◌, ◌-◌, ◌<◌, ◌≤◌, List, [], ◌∷◌, ◌++◌, length, refl, ap, ◌∙◌, add-zero, arith}
+use Rattle.std.proofs.Common.{sym, add-one, drop-cons, ◌≡◌, get_or, take, drop, ℕ, zero, suc, ◌+◌, ◌-◌, ◌*◌, ◌/◌, ◌%◌, ◌<◌, ◌≤◌, List, [], ◌∷◌, ◌++◌, length, Some, None, refl, ap, ◌∙◌, add-zero, arith}
+use Rattle.std.specs.Prelude.{slice_get}
 use Rattle.resb_tree.specs.Words.{run}
 
-pub run-push : {A : Type 0} (at : ℕ → A) (from count : ℕ) → run at from (count + 1) ≡ run at from count ++ at (from + count) ∷ []
-run-push at from zero = rw (add-zero) refl
-run-push at from (suc count) =
+pub run_push : {A : Type 0} (at : ℕ → A) (from count : ℕ) → run at from (count + 1) ≡ run at from count ++ at (from + count) ∷ []
+run_push at from zero = rw (add-zero) refl
+run_push at from (suc count) =
     let e : suc count + 1 ≡ suc (count + 1) = omega arith in
     let f : from + suc count ≡ from + 1 + count = omega arith in
-    rw (e, f) (ap (λ xs. at from ∷ xs) (run-push at (from + 1) count))
+    rw (e, f) (ap (λ xs. at from ∷ xs) (run_push at (from + 1) count))
 
 pub length_run : {A : Type 0} (at : ℕ → A) (from count : ℕ) → length (run at from count) ≡ count
 length_run at from zero = refl
 length_run at from (suc count) = ap suc (length_run at (from + 1) count)
+
+-- the values up to a place: one, and those behind it; or none
+pub run_next : {A : Type 0} (at : ℕ → A) (i end : ℕ) → i < end → run at i (end - i) ≡ at i ∷ run at (i + 1) (end - (i + 1))
+run_next at i end lt = let k : end - i ≡ suc (end - (i + 1)) = omega arith in rw k refl
+
+pub run_none : {A : Type 0} (at : ℕ → A) (i end : ℕ) → end ≤ i → run at i (end - i) ≡ []
+run_none at i end le = let k : end - i ≡ 0 = omega arith in rw k refl
+
+-- one more value behind those that were read
+pub run_grow : {A : Type 0} (at : ℕ → A) (from i : ℕ) → from ≤ i → run at from (i + 1 - from) ≡ run at from (i - from) ++ at i ∷ []
+run_grow at from i le =
+    let k : i + 1 - from ≡ i - from + 1 = omega arith in
+    let j : from + (i - from) ≡ i = omega arith in
+    rw (k, run_push at from (i - from), j) refl
+
+-- two more, and four
+pub run_two : {A : Type 0} (at : ℕ → A) (from i : ℕ) → from ≤ i → run at from (i + 2 - from) ≡ (run at from (i - from) ++ at i ∷ []) ++ at (i + 1) ∷ []
+run_two at from i le =
+    let k : i + 2 ≡ i + 1 + 1 = omega arith in
+    rw (k, run_grow at from (i + 1) (omega arith), run_grow at from i le) refl
+
+pub run_four : {A : Type 0} (at : ℕ → A) (from i : ℕ) → from ≤ i → run at from (i + 4 - from) ≡ (((run at from (i - from) ++ at i ∷ []) ++ at (i + 1) ∷ []) ++ at (i + 2) ∷ []) ++ at (i + 3) ∷ []
+run_four at from i le =
+    let k : i + 4 ≡ i + 2 + 2 = omega arith in
+    let j : i + 3 ≡ i + 2 + 1 = omega arith in
+    rw (k, run_two at from (i + 2) (omega arith), run_two at from i le, j) refl
+
+-- a word's first unit and byte
+pub even_place : (i : ℕ) → i % 2 ≡ 0 → i / 2 * 2 ≡ i
+even_place i h = omega arith
+
+pub word_place : (i : ℕ) → i % 4 ≡ 0 → i / 4 * 4 ≡ i
+word_place i h = omega arith
+
+-- the value at a place
+pub run_get : {A : Type 0} (at : ℕ → A) (from count k : ℕ) → k < count → slice_get (run at from count) k ≡ Some (at (from + k))
+run_get at from zero k lt = absurd (omega arith)
+run_get at from (suc count) zero lt = rw add-zero refl
+run_get at from (suc count) (suc k) lt = let e : from + suc k ≡ from + 1 + k = omega arith in rw e (run_get at (from + 1) count k (omega arith))
+
+pub run_past : {A : Type 0} (at : ℕ → A) (from count k : ℕ) → count ≤ k → slice_get (run at from count) k ≡ None
+run_past at from zero zero le = refl
+run_past at from zero (suc k) le = refl
+run_past at from (suc count) zero le = absurd (omega arith)
+run_past at from (suc count) (suc k) le = run_past at (from + 1) count k (omega arith)
 
 take_run : (words : List ℕ) (from count : ℕ) → from + count ≤ length words → take count (drop from words) ≡ run (λ k. get_or words k 0) from count
 take_run words from zero h = refl
@@ -31,7 +77,7 @@ pub run_more : (at : ℕ → ℕ) (from i : ℕ) (found : List ℕ) (x : ℕ) �
 run_more at from i found x le e f =
     let k : i + 1 - from ≡ i - from + 1 = omega arith in
     let j : from + (i - from) ≡ i = omega arith in
-    rw (k, run-push at from (i - from), j, e, f) refl
+    rw (k, run_push at from (i - from), j, e, f) refl
 
 -- the same, of the values before it and with it
 pub run_step : (at : ℕ → ℕ) (from i next : ℕ) (found more : List ℕ) (x : ℕ) → from ≤ i → next ≡ i + 1 → found ≡ run at from (i - from) → more ≡ found ++ x ∷ [] → x ≡ at i

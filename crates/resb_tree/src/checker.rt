@@ -2,7 +2,8 @@ ghost use Rattle.std.specs.Prelude.{◌≡◌, ◌+◌, ◌-◌, ◌*◌, ◌<�
 ghost use Rattle.resb_tree.specs.Words.{run};
 ghost use Rattle.resb_tree.specs.Keys.{distinct};
 ghost use Rattle.resb_tree.specs.Forms.{told, entry_in, EntriesLie};
-ghost use Rattle.resb_tree.specs.Inside.Checks.{AreMet, AreApart, HaveKeys, keys_there, key_length, key_left};
+ghost use Rattle.resb_tree.specs.Inside.Places.{HaveKeys};
+ghost use Rattle.resb_tree.specs.Inside.Checks.{AreMet, AreApart, keys_there, key_length, key_left};
 ghost use Rattle.resb_tree.specs.Reading.{Gives};
 
 use crate::body::BodyWords;
@@ -140,7 +141,7 @@ impl<'a> Checker<'a> {
     }
 
     /// What the bytes of the key at a place leave of the limit.
-    #[tactic(auto, unfolding(crate::specs::Inside::Checks::key_left))]
+    #[tactic(auto, using(crate::proofs::Checks::stop_length), unfolding(crate::specs::Inside::Checks::key_left))]
     pub fn key(&mut self, place: usize, limit: usize) -> Result<usize, ResbError>
         ensures same { self.new ≡ self.old }
         ensures value { Gives (λ x. x) result (key_left self.old place limit) }
@@ -155,6 +156,7 @@ impl<'a> Checker<'a> {
     }
 
     /// Whether no two entries of a table have equal keys; `AllocError` where memory runs out.
+    #[tactic(auto, using(crate::proofs::KeyPlaces::distinct_short))]
     pub fn are_apart(
         &mut self,
         alloc: Global,

@@ -54,6 +54,7 @@ fn short_text_left(body: &BodyWords<'_>, v: usize, limit: usize) -> Result<usize
 
 /// What the items of an array, from a place on, leave of the limit.
 #[cycle(walk)]
+#[tactic(auto, using(crate::proofs::Runs::run_next, crate::proofs::Runs::run_none))]
 fn items_left(
     alloc: Global,
     checker: &mut Checker<'_>,
@@ -103,6 +104,7 @@ fn array_left(
 
 /// What the entries of the table of so many entries at `v` leave of the limit.
 #[cycle(walk)]
+#[tactic(auto, using(crate::proofs::Runs::run_next, crate::proofs::Runs::run_none))]
 fn entries_left(
     alloc: Global,
     checker: &mut Checker<'_>,
@@ -130,7 +132,7 @@ fn entries_left(
 
 /// What the table at `v` leaves of the limit.
 #[cycle(walk)]
-#[tactic(auto, unfolding(crate::specs::Inside::Checks::table_left))]
+#[tactic(auto, using(crate::proofs::Checks::have_keys), unfolding(crate::specs::Inside::Checks::table_left))]
 fn table_left(
     alloc: Global,
     checker: &mut Checker<'_>,
@@ -208,6 +210,7 @@ fn item_left(
 }
 
 /// Whether the root item of a body denotes a tree of at most 8 levels that is not too heavy.
+#[tactic(auto, using(crate::proofs::Left::root_found, crate::proofs::Left::root_none))]
 pub fn check_root(alloc: Global, body: BodyWords<'_>, limit: usize) -> Result<(), ResbError>
     ensures value { let b = told body.entry in
         Gives (λ _. root_there b) result (denoted b limit) }

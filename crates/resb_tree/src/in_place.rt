@@ -69,6 +69,7 @@ impl<'a> Model for ResourceRef<'a> {
 
 impl<'a> Bundle<'a> {
     /// The bundle of these words, once all of its tree has been checked.
+    #[tactic(auto, unfolding(crate::specs::Header::tree_of))]
     pub fn open(alloc: Global, words: &'a [u32]) -> Result<Bundle<'a>, ResbError>
         ensures { Gives (λ x. x) result (tree_of words.now) }
     {
@@ -151,7 +152,7 @@ impl<'a> ResourceRef<'a> {
     }
 
     /// The items of an array.
-    #[tactic(auto, using(crate::proofs::LeafParts::tree_is, crate::proofs::LeafParts::items_none, crate::proofs::Parts::array_there, crate::proofs::Parts::array_items))]
+    #[tactic(auto, using(crate::proofs::Parts::seen_items))]
     pub fn items(&self) -> Option<ItemsRef<'a>>
         ensures { result ≡ items_in self.now }
     {
@@ -161,7 +162,7 @@ impl<'a> ResourceRef<'a> {
     }
 
     /// The entries of a table, in its order.
-    #[tactic(auto, using(crate::proofs::LeafParts::tree_is, crate::proofs::LeafParts::entries_none, crate::proofs::Parts::table_there, crate::proofs::Parts::table_entries))]
+    #[tactic(auto, using(crate::proofs::Parts::seen_entries))]
     pub fn entries(&self) -> Option<EntriesRef<'a>>
         ensures { result ≡ entries_in self.now }
     {

@@ -4,8 +4,8 @@ ghost use Rattle.std.specs.Str.{bytes_eq};
 ghost use Rattle.resb_tree.specs.Words.{run, byte_in};
 ghost use Rattle.resb_tree.specs.Keys.{distinct, stands_in};
 ghost use Rattle.resb_tree.specs.Forms.{told, entry_in, EntriesLie};
-ghost use Rattle.resb_tree.specs.Inside.Places.{key_there, IsKey};
-ghost use Rattle.resb_tree.specs.Inside.Checks.{HaveKeys, keys_there};
+ghost use Rattle.resb_tree.specs.Inside.Places.{key_there, IsKey, HaveKeys};
+ghost use Rattle.resb_tree.specs.Inside.Checks.{keys_there};
 
 use crate::body::BodyWords;
 use crate::forms::TableForm;
@@ -20,6 +20,7 @@ use std::alloc::{AllocError, Global};
 const FEW: usize = 16;
 
 /// Whether the key at a place has these bytes.
+#[tactic(auto, using(crate::proofs::KeyPlaces::key_steps))]
 pub fn key_is(body: &BodyWords<'_>, place: usize, bytes: &[u8]) -> bool
     requires { IsKey (told body.now) place }
     ensures { result ≡ bytes_eq (key_there (told body.now) place) bytes.now }
@@ -36,6 +37,7 @@ pub fn key_is(body: &BodyWords<'_>, place: usize, bytes: &[u8]) -> bool
 }
 
 /// Whether the keys at two places are equal.
+#[tactic(auto, using(crate::proofs::KeyPlaces::key_steps))]
 fn same_key(body: BodyWords<'_>, one: usize, other: usize) -> bool
     requires one { IsKey (told body) one }
     requires other { IsKey (told body) other }
@@ -57,6 +59,7 @@ fn same_key(body: BodyWords<'_>, one: usize, other: usize) -> bool
 }
 
 /// How many bytes the key at a place has.
+#[tactic(auto, using(crate::proofs::KeyPlaces::key_bytes))]
 fn key_len(body: BodyWords<'_>, place: usize) -> usize
     requires { IsKey (told body) place }
     ensures value { let b = told body.entry in run (byte_in b.words) place result ≡ key_there b place }
@@ -78,6 +81,7 @@ pub fn key_bytes(alloc: Global, body: BodyWords<'_>, place: usize) -> Result<Ite
 }
 
 /// Whether the key of an entry is that of a later one.
+#[tactic(auto, using(crate::proofs::Runs::run_next, crate::proofs::Runs::run_none))]
 fn stands_later(body: BodyWords<'_>, form: TableForm, v: usize, count: usize, k: usize) -> bool
     requires lie { EntriesLie form (told body) v count }
     requires keys { HaveKeys (told body) form v count }
@@ -95,6 +99,7 @@ fn stands_later(body: BodyWords<'_>, form: TableForm, v: usize, count: usize, k:
 }
 
 /// Whether no two of a few entries have equal keys.
+#[tactic(auto, using(crate::proofs::Runs::run_next, crate::proofs::Runs::run_none))]
 fn few_apart(body: BodyWords<'_>, form: TableForm, v: usize, count: usize) -> bool
     requires lie { EntriesLie form (told body) v count }
     requires keys { HaveKeys (told body) form v count }
@@ -110,6 +115,7 @@ fn few_apart(body: BodyWords<'_>, form: TableForm, v: usize, count: usize) -> bo
 }
 
 /// The same, in the time of a sort.
+#[tactic(auto, using(crate::proofs::KeyPlaces::keys_more))]
 fn many_apart(
     alloc: Global,
     body: BodyWords<'_>,
@@ -151,6 +157,7 @@ pub fn are_apart(
 }
 
 /// Whether the entries of two tables name the same places of keys, one after the other.
+#[tactic(auto, using(crate::proofs::Runs::run_next, crate::proofs::Runs::run_none))]
 pub fn same_places(
     body: BodyWords<'_>,
     count: usize,

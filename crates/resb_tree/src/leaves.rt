@@ -18,7 +18,7 @@ pub fn spend(limit: usize, weight: usize) -> Result<usize, ResbError>
 }
 
 /// The place of the first zero unit in the words of the 16-bit area from one on.
-#[tactic(auto, unfolding(crate::specs::Reading::zero_from))]
+#[tactic(auto, using(crate::proofs::Scans::zero_words, crate::proofs::Scans::zero_never, std::proofs::lemmas::Bool::Decides::nat_tests))]
 fn zero_word(body: &BodyWords<'_>, from: usize) -> Option<usize>
     ensures value { let b = told body.now in
         result ≡ zero_from (area_unit b) (2 * from) (area_len b - 2 * from) }
@@ -38,6 +38,7 @@ fn zero_word(body: &BodyWords<'_>, from: usize) -> Option<usize>
 }
 
 /// The place of the first zero unit of the 16-bit area from `v` on.
+#[tactic(auto, using(crate::proofs::Scans::zero_next, crate::proofs::Scans::zero_never))]
 fn zero_unit(body: &BodyWords<'_>, v: usize) -> Option<usize>
     requires { v < area_len (told body.now) }
     ensures value { result ≡ zero_from (area_unit (told body.now)) v (area_len (told body.now) - v) }

@@ -176,6 +176,7 @@ pub fn entries_from<'a>(
 }
 
 /// The value of the first entry of a table with a key.
+#[tactic(auto, using(crate::proofs::Runs::run_next, crate::proofs::Runs::run_none))]
 pub fn first_with<'a>(
     body: &'a BodyWords<'a>,
     form: TableForm,
@@ -206,7 +207,7 @@ impl<'a> TextRef<'a> {
     }
 
     /// The unit at a place, counted from 0.
-    #[tactic(auto, using(crate::proofs::Parts::run_get, crate::proofs::Parts::run_past))]
+    #[tactic(auto, using(crate::proofs::Runs::run_get, crate::proofs::Runs::run_past))]
     pub fn get(&self, at: usize) -> Option<u16>
         ensures { result ≡ slice_get self.now at }
     {
@@ -260,7 +261,7 @@ impl<'a> KeyRef<'a> {
 
 impl<'a> ItemsRef<'a> {
     /// How many items the array has.
-    #[tactic(auto, using(crate::proofs::Parts::items_there_length))]
+    #[tactic(auto, using(crate::proofs::Runs::length_run))]
     pub fn len(&self) -> usize
         ensures { result ≡ length self.now }
     {
@@ -268,7 +269,7 @@ impl<'a> ItemsRef<'a> {
     }
 
     /// The item at a place, counted from 0.
-    #[tactic(auto, using(crate::proofs::Parts::item_there, crate::proofs::Parts::items_there_length))]
+    #[tactic(auto, using(crate::proofs::Runs::run_get, crate::proofs::Runs::length_run))]
     pub fn at(&self, place: usize) -> ResourceRef<'a>
         requires { place < length self.now }
         ensures { slice_get self.now place ≡ Some result }
@@ -284,7 +285,7 @@ impl<'a> ItemsRef<'a> {
 
 impl<'a> EntriesRef<'a> {
     /// How many entries the table has.
-    #[tactic(auto, using(crate::proofs::Parts::entries_there_length))]
+    #[tactic(auto, using(crate::proofs::Runs::length_run))]
     pub fn len(&self) -> usize
         ensures { result ≡ length self.now }
     {
@@ -292,7 +293,7 @@ impl<'a> EntriesRef<'a> {
     }
 
     /// The entry at a place, counted from 0.
-    #[tactic(auto, using(crate::proofs::Parts::entry_there, crate::proofs::Parts::entries_there_length))]
+    #[tactic(auto, using(crate::proofs::Runs::run_get, crate::proofs::Runs::length_run))]
     pub fn at(&self, place: usize) -> (KeyRef<'a>, ResourceRef<'a>)
         requires { place < length self.now }
         ensures { slice_get self.now place ≡ Some result }

@@ -165,6 +165,7 @@ impl Resource {
     /// Takes the first entry with the key out of a table, and answers its value.
     ///
     /// `None` comes for another kind, and for a table without the key; then nothing changes.
+    #[tactic(auto, using(crate::proofs::FirstEntries::others_stay))]
     pub fn take_field(&mut self, key: &[u8]) -> Option<Resource>
         ensures value { result ≡ field_in key.now self.old }
         ensures rest { self.new ≡ without_field key.now self.old }

@@ -38,6 +38,7 @@ fn leaf_of(alloc: Global, from: &ResourceRef<'_>) -> Result<Resource, AllocError
 
 /// The array at `v`.
 #[cycle(copy)]
+#[tactic(auto, using(crate::proofs::Runs::run_push))]
 fn array_of(
     alloc: Global,
     body: &BodyWords<'_>,
@@ -62,6 +63,7 @@ fn array_of(
 
 /// The table at `v`.
 #[cycle(copy)]
+#[tactic(auto, using(crate::proofs::Runs::run_push))]
 fn table_of(
     alloc: Global,
     body: &BodyWords<'_>,

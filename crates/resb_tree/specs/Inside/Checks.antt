@@ -1,12 +1,12 @@
 -- What a walk that only checks leaves of the limit, and the keys that it has met.
-use Rattle.std.specs.Prelude.{◌≡◌, ℕ, zero, suc, ◌+◌, ◌/◌, ◌%◌, ◌<◌, List, [], ◌∷◌, length, map, All, Option, Some, None, true, if◌then◌else◌, ◌==◌}
+use Rattle.std.specs.Prelude.{◌≡◌, ℕ, zero, suc, ◌+◌, ◌/◌, ◌%◌, List, [], ◌∷◌, length, map, All, Option, Some, None, true, if◌then◌else◌, ◌==◌}
 use Rattle.resb_tree.specs.Keys.{distinct}
 use Rattle.resb_tree.specs.Words.{run}
 use Rattle.resb_tree.specs.Bodies.{◌>>=◌, when, Body, counted}
 use Rattle.resb_tree.specs.Tables.{key_at}
 use Rattle.resb_tree.specs.Forms.{item_in, no_items, array_count, entry_in, no_entries, EntriesLie, table_count}
 use Rattle.resb_tree.specs.Reading.{spent, short_span}
-use Rattle.resb_tree.specs.Inside.Places.{key_there, IsKey}
+use Rattle.resb_tree.specs.Inside.Places.{key_there}
 use Rattle.resb_tree.specs.declared.checker.Met.{Met}
 use Rattle.resb_tree.specs.declared.checker.Apart.{Apart}
 use Rattle.resb_tree.specs.declared.forms.ArrayForm.{ArrayForm}
@@ -47,10 +47,6 @@ IsTable b (Some met) = IsApart b met
 pub record AreApart (b : Body) (tables : List (Option Apart)) : Type 0 where
   pub count : length tables ≡ 16
   pub each : All (IsTable b) tables
-
--- each entry of a table begins with the place of a key
-abbrev pub HaveKeys : Body → TableForm → ℕ → ℕ → Type 0
-HaveKeys b form v count = (k : ℕ) → k < count → IsKey b (entry_in form b v count k).0
 
 -- ---- what is left of the limit behind each part
 

@@ -1,10 +1,9 @@
 -- What stands at a place of a body, where something does.
-use Rattle.std.specs.Prelude.{◌≡◌, ℕ, ◌+◌, ◌≤◌, List, [], slice_index, Option, Some, None}
+use Rattle.std.specs.Prelude.{◌≡◌, ℕ, ◌+◌, ◌<◌, ◌≤◌, List, [], slice_index, Option, Some, None}
 use Rattle.resb_tree.specs.Words.{run}
 use Rattle.resb_tree.specs.Bodies.{Body}
 use Rattle.resb_tree.specs.Tree.{tree_at}
-use Rattle.resb_tree.specs.Tables.{key_at, entries_of}
-use Rattle.resb_tree.specs.Arrays.{all_of}
+use Rattle.resb_tree.specs.Tables.{key_at}
 use Rattle.resb_tree.specs.Forms.{item_in, items_end, entry_in, EntriesLie}
 use Rattle.resb_tree.specs.declared.forms.ArrayForm.{ArrayForm}
 use Rattle.resb_tree.specs.declared.forms.TableForm.{TableForm}
@@ -53,20 +52,29 @@ IsKey b place = key_at b place ≡ Some (key_there b place)
 
 -- the trees of so many items from a place on
 abbrev pub items_there : Body → ArrayForm → ℕ → ℕ → ℕ → List Resource
-items_there b form levels from count = the_list (all_of (tree_at b levels) (run (item_in form b) from count))
+items_there b form levels from count = run (λ at. tree_there b levels (item_in form b at)) from count
 
 -- so many items lie where they may, and denote trees
 pub record AreItems (b : Body) (form : ArrayForm) (levels from count : ℕ) : Type 0 where
   pub lie : from + count ≤ items_end form b
-  pub all : all_of (tree_at b levels) (run (item_in form b) from count) ≡ Some (items_there b form levels from count)
+  pub each : (k : ℕ) → k < count → IsTree b levels (item_in form b (from + k))
 
 -- ---- the entries of a table
 
--- the keys and trees of so many entries
+-- each entry of a table begins with the place of a key
+abbrev pub HaveKeys : Body → TableForm → ℕ → ℕ → Type 0
+HaveKeys b form v count = (k : ℕ) → k < count → IsKey b (entry_in form b v count k).0
+
+-- the key and the tree of an entry
+abbrev pub entry_there : Body → TableForm → ℕ → ℕ → ℕ → ℕ → List ℕ × Resource
+entry_there b form levels v count k = let e = entry_in form b v count k in (key_there b e.0, tree_there b levels e.1)
+
+-- those of so many entries
 abbrev pub entries_there : Body → TableForm → ℕ → ℕ → ℕ → List (List ℕ × Resource)
-entries_there b form levels v count = the_list (entries_of (key_at b) (tree_at b levels) (run (entry_in form b v count) 0 count))
+entries_there b form levels v count = run (entry_there b form levels v count) 0 count
 
 -- so many entries lie where they may, and have keys and trees
 pub record AreEntries (b : Body) (form : TableForm) (levels v count : ℕ) : Type 0 where
   pub lie : EntriesLie form b v count
-  pub all : entries_of (key_at b) (tree_at b levels) (run (entry_in form b v count) 0 count) ≡ Some (entries_there b form levels v count)
+  pub keys : HaveKeys b form v count
+  pub trees : (k : ℕ) → k < count → IsTree b levels (entry_in form b v count k).1

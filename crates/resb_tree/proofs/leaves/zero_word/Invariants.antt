@@ -1,4 +1,4 @@
-use Rattle.std.proofs.Common.{◌≡◌, ◌-◌, ◌*◌, ◌≤◌}
+use Rattle.std.proofs.Common.{◌≡◌, ◌-◌, ◌*◌}
 use Rattle.resb_tree.specs.Bodies.{area_len, area_unit}
 use Rattle.resb_tree.specs.Forms.{told}
 use Rattle.resb_tree.specs.Reading.{zero_from}

@@ -1,73 +1,8 @@
-use Rattle.std.proofs.Common.{◌≡◌, ◌+◌, ◌-◌, ◌*◌, ◌<◌, ◌≤◌, List, length, ap, sym, ◌∙◌, arith, rules}
-use Rattle.std.proofs.lemmas.List.{take_all}
-use Rattle.resb_tree.specs.declared.resource.Resource.{Resource}
-use Rattle.resb_tree.specs.declared.resource.Resource.TheVariants as r
+use Rattle.std.proofs.Common.{◌+◌, ◌-◌, ◌*◌, ◌<◌, sym, ◌∙◌, arith, rules}
 use Rattle.resb_tree.specs.Forms.{told}
-use Rattle.resb_tree.specs.Inside.Places.{IsTree, items_there, AreItems, entries_there, AreEntries}
 use Rattle.resb_tree.proofs.LeafParts.{tree_is, items_none, entries_none}
-use Rattle.resb_tree.proofs.Parts.{array_there, item_there, items_there_length, table_there, entry_there, entries_there_length, taken_more}
+use Rattle.resb_tree.proofs.Parts.{array_there, table_there}
 use Rattle.resb_tree.proofs.trees.+copy.Goals as goal
-
-pub array_of-tree_of-requires : goal.array_of-tree_of-requires
-array_of-tree_of-requires t c =
-    let b = told c.args.body.now in
-    let are : AreItems b c.args.form c.args.levels (c.args.v + 1) c.items_count-count.result = rw c.items_count-count.ensures c.requires.are in
-    let here = item_there b c.args.form c.args.levels (c.args.v + 1) c.items_count-count.result c.loop-k.k are c.loop-k-test.true in
-    let tree : IsTree b c.args.levels c.item_behind-item.result = rw c.item_behind-item.ensures here.tree in
-    search rules
-
-pub array_of-loop-k-preserved : goal.array_of-loop-k-preserved
-array_of-loop-k-preserved t c =
-    let b = told c.args.body.now in
-    let count = c.items_count-count.result in
-    let are : AreItems b c.args.form c.args.levels (c.args.v + 1) count = rw c.items_count-count.ensures c.requires.are in
-    let here = item_there b c.args.form c.args.levels (c.args.v + 1) count c.loop-k.k are c.loop-k-test.true in
-    let len = items_there_length b c.args.form c.args.levels (c.args.v + 1) count are in
-    taken_more (items_there b c.args.form c.args.levels (c.args.v + 1) count) c.loop-k.k c.in_ok-tree.tree _ _ (rw len c.loop-k-test.true) (rw (c.in_ok-tree.ensures, c.item_behind-item.ensures) here.got) c.loop-k.invariant c.in_ok-push.ensures.ok
-
-pub array_of-returns : goal.array_of-returns
-array_of-returns t c =
-    let b = told c.args.body.now in
-    let count = c.items_count-count.result in
-    let are : AreItems b c.args.form c.args.levels (c.args.v + 1) count = rw c.items_count-count.ensures c.requires.are in
-    let xs = items_there b c.args.form c.args.levels (c.args.v + 1) count in
-    let len = items_there_length b c.args.form c.args.levels (c.args.v + 1) count are in
-    let past : length xs ≤ c.loop-k.k = rw len c.loop-k-test.false in
-    rw (← c.items_count-count.ensures) (ap (λ (ys : List Resource). r.Array ys) (c.loop-k.invariant ∙ take_all c.loop-k.k xs past))
-
-pub table_of-key_bytes-requires : goal.table_of-key_bytes-requires
-table_of-key_bytes-requires t c =
-    let b = told c.args.body.now in
-    let are : AreEntries b c.args.form c.args.levels c.args.v c.entries_count-count.result = rw c.entries_count-count.ensures c.requires.are in
-    rw c.entry_at-place.ensures (entry_there b c.args.form c.args.levels c.args.v c.entries_count-count.result c.loop-k.k are c.loop-k-test.true).name
-
-pub table_of-tree_of-requires : goal.table_of-tree_of-requires
-table_of-tree_of-requires t c =
-    let b = told c.args.body.now in
-    let are : AreEntries b c.args.form c.args.levels c.args.v c.entries_count-count.result = rw c.entries_count-count.ensures c.requires.are in
-    let here = entry_there b c.args.form c.args.levels c.args.v c.entries_count-count.result c.loop-k.k are c.loop-k-test.true in
-    let tree : IsTree b c.args.levels c.entry_at-place.result.1 = rw c.entry_at-place.ensures here.tree in
-    search rules
-
-pub table_of-loop-k-preserved : goal.table_of-loop-k-preserved
-table_of-loop-k-preserved t c =
-    let b = told c.args.body.now in
-    let count = c.entries_count-count.result in
-    let are : AreEntries b c.args.form c.args.levels c.args.v count = rw c.entries_count-count.ensures c.requires.are in
-    let here = entry_there b c.args.form c.args.levels c.args.v count c.loop-k.k are c.loop-k-test.true in
-    let len = entries_there_length b c.args.form c.args.levels c.args.v count are in
-    taken_more (entries_there b c.args.form c.args.levels c.args.v count) c.loop-k.k (c.in_ok-key.key, c.in_ok-tree.tree) _ _ (rw len c.loop-k-test.true)
-    (rw (c.in_ok-key.ensures, c.in_ok-bytes.ensures, c.in_ok-tree.ensures, c.entry_at-place.ensures) here.got) c.loop-k.invariant c.in_ok-push.ensures.ok
-
-pub table_of-returns : goal.table_of-returns
-table_of-returns t c =
-    let b = told c.args.body.now in
-    let count = c.entries_count-count.result in
-    let are : AreEntries b c.args.form c.args.levels c.args.v count = rw c.entries_count-count.ensures c.requires.are in
-    let xs = entries_there b c.args.form c.args.levels c.args.v count in
-    let len = entries_there_length b c.args.form c.args.levels c.args.v count are in
-    let past : length xs ≤ c.loop-k.k = rw len c.loop-k-test.false in
-    rw (← c.entries_count-count.ensures) (ap (λ ys. r.Table ys) (c.loop-k.invariant ∙ take_all c.loop-k.k xs past))
 
 pub tree_of-overflow_sub-levels : goal.tree_of-overflow_sub-levels
 tree_of-overflow_sub-levels t c = let low = (tree_is (told c.args.body.now) c.args.levels c.args.item c.requires).low in omega arith

@@ -1,6 +1,7 @@
-use Rattle.std.proofs.Common.{◌≡◌, ◌+◌, ◌*◌, take}
+use Rattle.std.proofs.Common.{◌≡◌, ◌+◌, ◌*◌}
+use Rattle.resb_tree.specs.Words.{run}
 use Rattle.resb_tree.specs.Forms.{told}
-use Rattle.resb_tree.specs.Inside.Places.{items_there, entries_there}
+use Rattle.resb_tree.specs.Inside.Places.{items_there, entry_there}
 use Rattle.resb_tree.proofs.trees.+copy.Given as goal
 
 abbrev pub decreases-tree_of : goal.decreases-tree_of
@@ -13,7 +14,7 @@ abbrev pub decreases-table_of : goal.decreases-table_of
 decreases-table_of l = 2 * l.levels + 1
 
 abbrev pub invariant-array_of-loop-k : goal.invariant-array_of-loop-k
-invariant-array_of-loop-k l = l.items ≡ take l.k (items_there (told l.body) l.form l.levels (l.v + 1) l.count)
+invariant-array_of-loop-k l = l.items ≡ items_there (told l.body) l.form l.levels (l.v + 1) l.k
 
 abbrev pub invariant-table_of-loop-k : goal.invariant-table_of-loop-k
-invariant-table_of-loop-k l = l.entries ≡ take l.k (entries_there (told l.body) l.form l.levels l.v l.count)
+invariant-table_of-loop-k l = l.entries ≡ run (entry_there (told l.body) l.form l.levels l.v l.count) 0 l.k
