@@ -72,18 +72,6 @@ slice_run words from count h =
     let e : from + count - from ≡ count = omega arith in
     rw e (take_run words from count h)
 
--- one more value was read
-pub run_more : (at : ℕ → ℕ) (from i : ℕ) (found : List ℕ) (x : ℕ) → from ≤ i → found ≡ run at from (i - from) → x ≡ at i → found ++ x ∷ [] ≡ run at from (i + 1 - from)
-run_more at from i found x le e f =
-    let k : i + 1 - from ≡ i - from + 1 = omega arith in
-    let j : from + (i - from) ≡ i = omega arith in
-    rw (k, run_push at from (i - from), j, e, f) refl
-
--- the same, of the values before it and with it
-pub run_step : (at : ℕ → ℕ) (from i next : ℕ) (found more : List ℕ) (x : ℕ) → from ≤ i → next ≡ i + 1 → found ≡ run at from (i - from) → more ≡ found ++ x ∷ [] → x ≡ at i
-    → more ≡ run at from (next - from)
-run_step at from i next found more x le n e m f = m ∙ run_more at from i found x le e f ∙ ap (λ k. run at from (k - from)) (sym n)
-
 pub run_shift : (at : ℕ → ℕ) (base from count : ℕ) → run at (base + from) count ≡ run (λ k. at (base + k)) from count
 run_shift at base from zero = refl
 run_shift at base from (suc count) =
