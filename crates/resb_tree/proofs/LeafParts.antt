@@ -1,6 +1,7 @@
 -- A resource's kind, and texts, bytes and numbers by where they stand.
 use Rattle.std.proofs.Common.{◌≡◌, ◌≢◌, ℕ, zero, suc, ◌+◌, ◌-◌, ◌*◌, ◌/◌, ◌%◌, ◌<◌, ◌≤◌, Bool, true, false, cond, leb, ltb, eqb, List, [], Option, Some, None, refl, ap, sym, ◌∙◌, inl, inr, arith}
 use Rattle.std.specs.Prelude.{slice_index, map, ◌&&◌}
+use Rattle.std.proofs.lemmas.Bool.{ltb-true, leb-true}
 use Rattle.std.proofs.lemmas.Bool.Decides.{eqb_tells, nat_tests}
 use Rattle.resb_tree.specs.declared.resource.Resource.{Resource, out-Resource}
 use Rattle.resb_tree.specs.declared.resource.Resource.TheOpen.{Resource-F}
@@ -231,12 +232,6 @@ both_hold true true x y h = let e : x ≡ y = cc in (refl, refl, e)
 both_hold true false x y h = cc
 both_hold false q x y h = cc
 
-pub below : (a b : ℕ) → ltb a b ≡ true → a < b
-below a b h = grind (arith, nat_tests)
-
-pub at_most : (a b : ℕ) → leb a b ≡ true → a ≤ b
-at_most a b h = grind (arith, nat_tests)
-
 -- a count stands at a word, and its values behind it
 pub record CountHere (b : Body) (v per n : ℕ) : Type 0 where
   pub low : v < b.end
@@ -250,7 +245,7 @@ count_here b v per n pos none h = elim (eqb_tells v 0) [
       record { low = omega (arith, z.1); fit = rw (← e, none, z.1) (omega arith); here = rw z.0 e }
   | inr nz ↦
       let f = both_hold (ltb v b.end) (leb (v + 1 + (slice_index b.words v + per - 1) / per) b.end) (slice_index b.words v) n (rw nz.0 at h) in
-      record { low = below _ _ f.0; fit = rw (← f.2) (at_most _ _ f.1); here = rw nz.0 f.2 }
+      record { low = ltb-true _ _ f.0; fit = rw (← f.2) (leb-true _ _ f.1); here = rw nz.0 f.2 }
 ]
 
 -- what stands behind a count, where its values are made a tree

@@ -1,7 +1,7 @@
 -- Items and entries by where they stand.
 use Rattle.std.proofs.Common.{◌≡◌, ℕ, zero, suc, ◌+◌, ◌-◌, ◌*◌, ◌/◌, ◌%◌, ◌<◌, ◌≤◌, Bool, true, false, cond, leb, ltb, List, [], ◌∷◌, Option, Some, None, refl, sym, ◌∙◌, inl, inr, arith}
 use Rattle.std.specs.Prelude.{slice_index, map}
-use Rattle.std.proofs.lemmas.Bool.{cases_eq}
+use Rattle.std.proofs.lemmas.Bool.{cases_eq, ltb-true, leb-true}
 use Rattle.std.proofs.lemmas.Bool.Decides.{eqb_tells}
 use Rattle.resb_tree.specs.declared.resource.Resource.{Resource}
 use Rattle.resb_tree.specs.declared.resource.Resource.TheVariants as r
@@ -21,7 +21,7 @@ use Rattle.resb_tree.specs.Inside.Places.{the_tree, the_list, tree_there, IsTree
 use Rattle.resb_tree.specs.Inside.Parts.{items_count, entries_end, entries_count, array_form, table_form}
 use Rattle.resb_tree.proofs.Left.{array_by, long_array, short_array, table_by, narrow_table, wide_table, brief_table}
 use Rattle.resb_tree.proofs.Checks.{bind_some}
-use Rattle.resb_tree.proofs.LeafParts.{out_array, out_table, both_hold, below, at_most, count_here, tree_is, items_none, entries_none}
+use Rattle.resb_tree.proofs.LeafParts.{out_array, out_table, both_hold, count_here, tree_is, items_none, entries_none}
 
 -- ---- what each of some values gives
 
@@ -82,9 +82,9 @@ items_counted array.Long b v n pos h =
     (c.low, omega arith, c.here)
 items_counted array.Short b v n pos h =
     let f = both_hold (ltb v (area_len b)) (leb (v + 1 + 1 * area_unit b v) (area_len b)) (area_unit b v) n h in
-    let fit = at_most _ _ f.1 in
+    let fit = leb-true _ _ f.1 in
     let same = f.2 in
-    (below _ _ f.0, omega arith, f.2)
+    (ltb-true _ _ f.0, omega arith, f.2)
 
 -- an array stands behind the count of its items
 pub record ArrayHere (b : Body) (form : ArrayForm) (levels : ℕ) (t : Resource) (v : ℕ) : Type 0 where
@@ -146,7 +146,7 @@ entries_counted table.Narrow b v n pos h = elim (eqb_tells v 0) [
       (omega (arith, z.1), rw (← e, z.1) (omega arith), rw z.0 e)
   | inr nz ↦
       let f = both_hold (ltb v b.end) (leb (v + (unit_in b.words (2 * v) + 2) / 2 + unit_in b.words (2 * v)) b.end) (unit_in b.words (2 * v)) n (rw nz.0 at h) in
-      (below _ _ f.0, rw (← f.2) (at_most _ _ f.1), rw nz.0 f.2)
+      (ltb-true _ _ f.0, rw (← f.2) (leb-true _ _ f.1), rw nz.0 f.2)
 ]
 entries_counted table.Wide b v n pos h = elim (eqb_tells v 0) [
   | inl z ↦
@@ -154,11 +154,11 @@ entries_counted table.Wide b v n pos h = elim (eqb_tells v 0) [
       (omega (arith, z.1), rw (← e, z.1) (omega arith), rw z.0 e)
   | inr nz ↦
       let f = both_hold (ltb v b.end) (leb (v + 1 + 2 * slice_index b.words v) b.end) (slice_index b.words v) n (rw nz.0 at h) in
-      (below _ _ f.0, rw (← f.2) (at_most _ _ f.1), rw nz.0 f.2)
+      (ltb-true _ _ f.0, rw (← f.2) (leb-true _ _ f.1), rw nz.0 f.2)
 ]
 entries_counted table.Brief b v n pos h =
     let f = both_hold (ltb v (area_len b)) (leb (v + 1 + 2 * area_unit b v) (area_len b)) (area_unit b v) n h in
-    (below _ _ f.0, rw (← f.2) (at_most _ _ f.1), f.2)
+    (ltb-true _ _ f.0, rw (← f.2) (leb-true _ _ f.1), f.2)
 
 -- how many entries there were, and which
 record EntriesFound (is_empty : Bool) (count : Option ℕ) (found : ℕ → Option (List (List ℕ × Resource))) (t : Resource) : Type 0 where
