@@ -1,6 +1,7 @@
 -- Values in a row, as a loop reads them.
 use Rattle.std.proofs.Common.{sym, add-one, drop-cons, ◌≡◌, get_or, take, drop, ℕ, zero, suc, ◌+◌, ◌-◌, ◌*◌, ◌/◌, ◌%◌, ◌<◌, ◌≤◌, List, [], ◌∷◌, ◌++◌, length, Some, None, refl, ap, ◌∙◌, add-zero, arith}
 use Rattle.std.specs.Prelude.{slice_get}
+use Rattle.std.proofs.lemmas.Bool.Decides.{nat_tests}
 use Rattle.resb_tree.specs.Words.{run}
 
 pub run_push : {A : Type 0} (at : ℕ → A) (from count : ℕ) → run at from (count + 1) ≡ run at from count ++ at (from + count) ∷ []
@@ -77,3 +78,7 @@ run_shift at base from zero = refl
 run_shift at base from (suc count) =
     let e : base + from + 1 ≡ base + (from + 1) = omega arith in
     rw e (ap (λ xs. at (base + from) ∷ xs) (run_shift at base (from + 1) count))
+
+pub ruleset two_more = (run_grow, run_two, even_place, nat_tests)
+
+pub ruleset four_more = (run_grow, run_four, word_place, nat_tests)

@@ -1,5 +1,6 @@
 -- Looking for a zero value, one place after the other.
 use Rattle.std.proofs.Common.{◌≡◌, ℕ, suc, ◌+◌, ◌-◌, ◌*◌, ◌<◌, ◌≤◌, cond, eqb, ltb, Some, None, refl, arith}
+use Rattle.std.proofs.lemmas.Bool.Decides.{nat_tests}
 use Rattle.resb_tree.specs.Reading.{zero_from, key_stop}
 
 pub zero_next : (unit : ℕ → ℕ) (i end : ℕ) → i < end → zero_from unit i (end - i) ≡ cond (eqb (unit i) 0) (Some i) (zero_from unit (i + 1) (end - (i + 1)))
@@ -23,3 +24,5 @@ stop_next byte i end lt = let k : end - i ≡ suc (end - (i + 1)) = omega arith 
 pub stop_never : (byte : ℕ → ℕ) (i end : ℕ) → end ≤ i → key_stop byte i (end - i) ≡ None
 unfolding key_stop
 stop_never byte i end le = let k : end - i ≡ 0 = omega arith in rw k refl
+
+pub ruleset stops = (stop_next, stop_never, nat_tests)

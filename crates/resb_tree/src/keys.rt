@@ -16,7 +16,7 @@ use std::collections::BTreeSet;
 const FEW: usize = 16;
 
 /// The place of the zero byte that ends the key at a place.
-#[tactic(auto, using(crate::proofs::Scans::stop_next, crate::proofs::Scans::stop_never, std::proofs::lemmas::Bool::Decides::nat_tests), unfolding(crate::specs::Reading::key_stop))]
+#[tactic(auto, using(crate::proofs::Scans::stops), unfolding(crate::specs::Reading::key_stop))]
 pub fn key_stop(body: BodyWords<'_>, place: usize) -> Result<usize, ResbError>
     ensures value { Gives (λ x. x) result
         (key_stop (byte_in body.entry.words.now) place (4 * body.entry.keys_end - place)) }

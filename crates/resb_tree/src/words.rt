@@ -26,7 +26,7 @@ pub fn unit_at(words: &[u32], at: usize) -> u16
 }
 
 /// So many 16-bit units, from one on.
-#[tactic(auto, using(crate::proofs::Runs::run_grow, crate::proofs::Runs::run_two, crate::proofs::Runs::even_place, std::proofs::lemmas::Bool::Decides::nat_tests))]
+#[tactic(auto, using(crate::proofs::Runs::two_more))]
 pub fn units_from(
     alloc: Global,
     words: &[u32],
@@ -78,7 +78,7 @@ pub fn copy_units(words: &[u32], from: usize, count: usize, units: &mut [u16])
 }
 
 /// So many bytes, from one on.
-#[tactic(auto, using(crate::proofs::Runs::run_grow, crate::proofs::Runs::run_four, crate::proofs::Runs::word_place, std::proofs::lemmas::Bool::Decides::nat_tests))]
+#[tactic(auto, using(crate::proofs::Runs::four_more))]
 pub fn bytes_from(
     alloc: Global,
     words: &[u32],
