@@ -1,13 +1,13 @@
-pub mod YearsBetween
+mod YearsBetween
 pub mod CalendarLemmas
-pub mod CalendarCycle
+mod CalendarCycle
 pub mod YearKinds
-pub mod DateOrder
+mod DateOrder
 pub mod DateOfDay
-pub mod DateEnds
+mod DateEnds
 pub mod DateMoves
 pub mod WallParts
-pub mod CalendarExamples
-pub mod WeekOfThursday
-pub mod Setters
-pub mod DateTexts
+mod CalendarExamples
+mod WeekOfThursday
+mod Setters
+mod DateTexts

@@ -3,6 +3,7 @@ ghost use Rattle.civil.specs.Calendar.{day_of};
 ghost use Rattle.civil.specs.CivilDates.{IsDateOf};
 ghost use Rattle.civil.specs.Dates.{date_text, ymd_text};
 ghost use Rattle.civil.specs.Laws.{CountsYears, DatesAreDays, KindsOfYear, YearsRepeat};
+ghost use Rattle.civil.specs.YearLaws.{ExampleYears};
 
 use crate::date::NaiveDate;
 
@@ -43,3 +44,9 @@ pub fn ends() -> (NaiveDate, NaiveDate)
 {
     (NaiveDate::MIN, NaiveDate::MAX)
 }
+
+/// Each of the 14 kinds of year has a year of that kind from 2000 to 2024 as its example.
+#[inline]
+pub fn example_years()
+    ensures { ExampleYears }
+{}

@@ -15,7 +15,8 @@ use Rattle.timeline.specs.WallPromises.{IsOfYear, IsRuleEntry, HasTwoCandidates}
 use Rattle.timeline.proofs.ChainWalls.{IsBehind, IsAhead, Stretches, not_behind, not_ahead}
 use Rattle.timeline.proofs.TimelineEntries.{Stands, in_table, is_first, is_second, stands, is_there, table_entry, before_next}
 use Rattle.timeline.proofs.TimelineRises.{if_some, neighbours, step_of, same_rule}
-use Rattle.timeline.proofs.TimelineYears.{years_rise, years_from, rule_of, StartsFrom, ends_before, starts_from}
+use Rattle.timeline.proofs.Years.{years_rise}
+use Rattle.timeline.proofs.TimelineYears.{years_from, rule_of, StartsFrom, ends_before, starts_from}
 use Rattle.timeline.proofs.TablePlaces.{IsTablePlace, table_placed}
 
 four : (n k : ℕ) → (suc n < k) ⊎ ((k < n) ⊎ ((n + 1 ≡ k) ⊎ (n ≡ k)))

@@ -1,9 +1,10 @@
 -- The years of a rule by their kinds: what one year of each kind keeps, all years keep.
-use Rattle.std.proofs.Common.{◌≡◌, ℕ, zero, suc, ◌<◌, ◌≤◌, Bool, true, false, Ok, refl, sym, ap, subst, ◌∙◌, ℤ, pos, ◌+ℤ◌, ◌-ℤ◌, ◌*ℤ◌, ◌≤ℤ◌, cond, arith}
+use Rattle.std.proofs.Common.{◌≡◌, ℕ, ◌<◌, ◌≤◌, Bool, true, false, Ok, refl, sym, subst, ◌∙◌, ℤ, pos, ◌+ℤ◌, ◌-ℤ◌, ◌*ℤ◌, ◌≤ℤ◌, cond, arith}
 use Rattle.std.proofs.lemmas.Int.{ints}
+use Rattle.std.proofs.lemmas.Bool.Decides.{nat_tests}
 use Rattle.civil.specs.Calendar.{is_leap_year, days_in_year, year_kind, year_second, example_year}
-use Rattle.civil.proofs.CalendarLemmas.{year_start-next}
-use Rattle.civil.proofs.YearKinds.{same_kind, kind_below, kind_of_example, kind_occurs}
+use Rattle.civil.specs.Laws.{CountsYears, KindsOfYear}
+use Rattle.civil.specs.YearLaws.{ExampleYears}
 use Rattle.timeline.specs.declared.fault.ZoneFault.{ZoneFault}
 use Rattle.timeline.specs.declared.fault.ZoneFault.TheVariants.{Parts, Order, Size, Near, Walls, Seam, Before, Year}
 use Rattle.timeline.specs.declared.check.Walls as checked
@@ -16,7 +17,7 @@ use Rattle.timeline.specs.Inside.LeastFaults.{TellsLeast}
 use Rattle.timeline.specs.Inside.CheckSteps.{walls, kind_seconds, PairKeeps, YearKeeps, YearsKeep}
 use Rattle.timeline.proofs.LeastFaults.{Told, tells-same}
 use Rattle.timeline.proofs.CheckLaws.{near-there, near-back, walled-there, walled-back, lies-there, lies-back}
-use Rattle.timeline.proofs.RuleKinds.{first_entry-same, second_entry-same}
+use Rattle.timeline.proofs.RuleKinds.{kind_of_year, first_entry-same, second_entry-same}
 
 -- a step as much later
 record LaterStep (d : ℤ) (a b : Step) : Type 0 where
@@ -57,28 +58,28 @@ record SameYears (r : PlainRule) (y z : ℤ) : Type 0 where
   second : LaterStep (year_second z -ℤ year_second y) (step (offset_of (first_entry r y)) (second_entry r y)) (step (offset_of (first_entry r z)) (second_entry r z))
   end : year_second (z +ℤ pos 1) ≡ year_second (y +ℤ pos 1) +ℤ (year_second z -ℤ year_second y)
 
-same_years : (r : PlainRule) (y z : ℤ) → year_kind y ≡ year_kind z → SameYears r y z
-same_years r y z same =
+same_years : CountsYears → (r : PlainRule) (y z : ℤ) → year_kind y ≡ year_kind z → SameYears r y z
+same_years counts r y z same =
     let a = first_entry-same r y z same in
     let b = second_entry-same r y z same in
-    let days : days_in_year z ≡ days_in_year y = ap (λ l. cond l 366 365) (sym (same_kind y z same).0) in
+    let days : days_in_year z ≡ days_in_year y = grind (arith, nat_tests, (kind_of_year y _ same).1, (kind_of_year z _ refl).1) in
     record {
       first = record { since = a.since; before = b.offset; after = a.offset };
       second = record { since = b.since; before = a.offset; after = b.offset };
-      end = omega (arith, ints, year_start-next y, year_start-next z, days);
+      end = omega (arith, ints, counts.next y, counts.next z, days);
     }
 
 -- a year keeps what another one of its kind keeps
-pub year_keeps-same : (r : PlainRule) (y z : ℤ) → year_kind y ≡ year_kind z → (f : ZoneFault) → YearKeeps r y f → YearKeeps r z f
-year_keeps-same r y z same Parts h = h
-year_keeps-same r y z same Order h = h
-year_keeps-same r y z same Size h = h
-year_keeps-same r y z same Near h = let s = same_years r y z same in near-later _ _ _ _ _ s.first s.second h
-year_keeps-same r y z same Walls h = let s = same_years r y z same in walled-later _ _ _ _ _ s.first s.second h
-year_keeps-same r y z same Seam h = h
-year_keeps-same r y z same Before h = h
-year_keeps-same r y z same Year h =
-    let s = same_years r y z same in
+pub year_keeps-same : CountsYears → (r : PlainRule) (y z : ℤ) → year_kind y ≡ year_kind z → (f : ZoneFault) → YearKeeps r y f → YearKeeps r z f
+year_keeps-same counts r y z same Parts h = h
+year_keeps-same counts r y z same Order h = h
+year_keeps-same counts r y z same Size h = h
+year_keeps-same counts r y z same Near h = let s = same_years counts r y z same in near-later _ _ _ _ _ s.first s.second h
+year_keeps-same counts r y z same Walls h = let s = same_years counts r y z same in walled-later _ _ _ _ _ s.first s.second h
+year_keeps-same counts r y z same Seam h = h
+year_keeps-same counts r y z same Before h = h
+year_keeps-same counts r y z same Year h =
+    let s = same_years counts r y z same in
     let low : year_second z ≡ year_second y +ℤ (year_second z -ℤ year_second y) = omega (arith, ints) in
     record {
       first = lies-later _ _ _ _ _ _ _ s.first low s.end h.first;
@@ -123,44 +124,29 @@ year_told r y a b low high t d e f g h =
 
 -- ---- one year of each kind
 
--- the days of the example of a kind, in seconds
-example_seconds : (k : ℕ) → k < 14 → pos 86400 *ℤ pos (days_in_year (example_year k)) ≡ kind_seconds k
-example_seconds zero h = refl
-example_seconds (suc zero) h = refl
-example_seconds (suc (suc zero)) h = refl
-example_seconds (suc (suc (suc zero))) h = refl
-example_seconds (suc (suc (suc (suc zero)))) h = refl
-example_seconds (suc (suc (suc (suc (suc zero))))) h = refl
-example_seconds (suc (suc (suc (suc (suc (suc zero)))))) h = refl
-example_seconds (suc (suc (suc (suc (suc (suc (suc zero))))))) h = refl
-example_seconds (suc (suc (suc (suc (suc (suc (suc (suc zero)))))))) h = refl
-example_seconds (suc (suc (suc (suc (suc (suc (suc (suc (suc zero))))))))) h = refl
-example_seconds (suc (suc (suc (suc (suc (suc (suc (suc (suc (suc zero)))))))))) h = refl
-example_seconds (suc (suc (suc (suc (suc (suc (suc (suc (suc (suc (suc zero))))))))))) h = refl
-example_seconds (suc (suc (suc (suc (suc (suc (suc (suc (suc (suc (suc (suc zero)))))))))))) h = refl
-example_seconds (suc (suc (suc (suc (suc (suc (suc (suc (suc (suc (suc (suc (suc zero))))))))))))) h = refl
-example_seconds (suc (suc (suc (suc (suc (suc (suc (suc (suc (suc (suc (suc (suc (suc k)))))))))))))) h = absurd (omega arith)
-
-pub example_high : (k : ℕ) → k < 14 → year_second (example_year k) +ℤ kind_seconds k ≡ year_second (example_year k +ℤ pos 1)
-example_high k h = omega (arith, ints, example_seconds k h, year_start-next (example_year k))
+-- the year after the example of a kind begins as many seconds later as the kind has
+pub example_high : ExampleYears → CountsYears → (k : ℕ) → k < 14 → year_second (example_year k) +ℤ kind_seconds k ≡ year_second (example_year k +ℤ pos 1)
+example_high examples counts k h =
+    let days : pos 86400 *ℤ pos (days_in_year (example_year k)) ≡ kind_seconds k = grind (arith, nat_tests, (kind_of_year (example_year k) k (examples k h)).1) in
+    omega (arith, ints, days, counts.next (example_year k))
 
 -- a year has 365 days or more
-pub year_long : (y : ℤ) → (year_second y +ℤ pos 31536000) ≤ℤ year_second (y +ℤ pos 1)
-year_long y = omega (arith, ints, year_start-next y, days (is_leap_year y))
+pub year_long : CountsYears → (y : ℤ) → (year_second y +ℤ pos 31536000) ≤ℤ year_second (y +ℤ pos 1)
+year_long counts y = omega (arith, ints, counts.next y, days (is_leap_year y))
   where
     days : (l : Bool) → 365 ≤ cond l 366 365
     days true = omega arith
     days false = omega arith
 
 -- what holds of the example of each kind holds of all years
-pub years_told : (r : PlainRule) (t : Told) → r.first_year ≤ℤ pos 134217727
+pub years_told : CountsYears → KindsOfYear → ExampleYears → (r : PlainRule) (t : Told) → r.first_year ≤ℤ pos 134217727
     → TellsLeast (λ f. (m : ℕ) → m < 14 → YearKeeps r (example_year m) f) t → TellsLeast (YearsKeep r) t
-years_told r t high h =
+years_told counts kinds examples r t high h =
     tells-same (λ f. (m : ℕ) → m < 14 → YearKeeps r (example_year m) f) (YearsKeep r) t
-    (λ f all y from to. year_keeps-same r (example_year (year_kind y)) y (kind_of_example (year_kind y) (kind_below y)) f (all (year_kind y) (kind_below y)))
+    (λ f all y from to. year_keeps-same counts r (example_year (year_kind y)) y (examples (year_kind y) (kinds.few y)) f (all (year_kind y) (kinds.few y)))
     (λ f all m less.
-    let z = kind_occurs r.first_year m less in
-    year_keeps-same r z.0 (example_year m) (z.3 ∙ sym (kind_of_example m less)) f (all z.0 z.1 (omega (arith, ints, z.2, high))))
+    let z = kinds.occur r.first_year m less in
+    year_keeps-same counts r z.0 (example_year m) (z.3 ∙ sym (examples m less)) f (all z.0 z.1 (omega (arith, ints, z.2, high))))
     h
 
 -- before the first kind nothing is asked

@@ -5,9 +5,9 @@ use Rattle.std.specs.Int.{int_div_euclid}
 use Rattle.civil.specs.Calendar.{year_start}
 use Rattle.civil.specs.CivilDates.{HoldsDay}
 use Rattle.jiff_core.proofs.SignedLemmas.{int_div_euclid-parts}
-use Rattle.civil.proofs.CalendarLemmas.{counts_years, starts_in_order}
 use Rattle.timeline.specs.WallPromises.{IsOfYear}
 use Rattle.timeline.specs.Inside.YearEntries.{IsNearestYear, inside, before, after}
+use Rattle.timeline.proofs.Years.{years_rise, epoch}
 use Rattle.timeline.proofs.Entries.{below_or_not}
 
 -- a time of day on a day of a year
@@ -35,8 +35,7 @@ nearest_before t day is negative outside = by (below_or_not day (year_start (neg
     by : (day <ℤ year_start (negsuc 2147483647)) ⊎ (year_start (negsuc 2147483647) ≤ℤ day) → IsNearestYear (negsuc 2147483647) t
     by (inl early) = let end = not_over t day is in before refl (omega (arith, ints, early, end))
     by (inr from) =
-        let up = starts_in_order (pos 1970) (pos 2147483648) (omega (arith, ints)) in
-        let epoch = counts_years.epoch in
+        let up = years_rise (pos 1970) (pos 2147483648) (omega (arith, ints)) in
         absurd (outside (from, omega (arith, ints, negative, up, epoch)))
 
 pub nearest_after : (t day : ℤ) → day ≡ int_div_euclid t (pos 86400) → pos 0 ≤ℤ day → (IsIn32 day → ⊥) → IsNearestYear (pos 2147483647) t
@@ -44,10 +43,9 @@ nearest_after t day is positive outside = by (below_or_not day (year_start (pos 
   where
     by : (day <ℤ year_start (pos 2147483648)) ⊎ (year_start (pos 2147483648) ≤ℤ day) → IsNearestYear (pos 2147483647) t
     by (inl early) =
-        let up = starts_in_order (negsuc 2147483647) (pos 1970) (omega (arith, ints)) in
-        let epoch = counts_years.epoch in
+        let up = years_rise (negsuc 2147483647) (pos 1970) (omega (arith, ints)) in
         absurd (outside (omega (arith, ints, positive, up, epoch), early))
     by (inr late) =
-        let up = starts_in_order (pos 2147483647) (pos 2147483648) (omega (arith, ints)) in
+        let up = years_rise (pos 2147483647) (pos 2147483648) (omega (arith, ints)) in
         let start = begun t day is in
         after refl (omega (arith, ints, late, up, start))

@@ -1,29 +1,23 @@
 -- The places of a rule's dates by remainders.
-use Rattle.std.proofs.Common.{◌≡◌, ◌≢◌, ℕ, zero, suc, ◌+◌, ◌-◌, ◌/◌, ◌%◌, ◌<◌, ◌≤◌, Bool, true, false, not, cond, nat_lt, refl, sym, ap, ◌∙◌, ℤ, pos, ◌+ℤ◌, ◌-ℤ◌, ◌*ℤ◌, arith}
+use Rattle.std.proofs.Common.{◌≡◌, ◌≢◌, ℕ, zero, suc, ◌+◌, ◌-◌, ◌%◌, ◌<◌, ◌≤◌, Bool, true, false, cond, refl, sym, ap, ◌∙◌, ℤ, pos, ◌+ℤ◌, ◌-ℤ◌, ◌*ℤ◌, arith}
 use Rattle.std.specs.Prelude.{unsigned_abs, int_lt}
-use Rattle.std.specs.Int.{int_div_euclid}
 use Rattle.std.specs.Ordering.{int_eq}
 use Rattle.std.proofs.lemmas.Int.{ints}
 use Rattle.std.proofs.lemmas.Bool.Decides.{nat_tests, Decides-int_eq}
 use Rattle.civil.specs.Calendar.{is_leap_year, year_start, days_of_months, weekday_of, year_kind, example_year}
-use Rattle.civil.proofs.YearKinds.{weekday_of-parts, weekday_of-is, year_kind-is, days_of_months-leap}
-use Rattle.jiff_core.proofs.SignedLemmas.{signed_arith, one_part}
+use Rattle.jiff_core.proofs.SignedLemmas.{signed_arith}
 use Rattle.timeline.specs.Zone.{DateRule}
 use Rattle.timeline.specs.RuleDays.{code_weekday, anchor, first_on, last_on, rule_date}
 use Rattle.timeline.specs.Kinds.{place_in_kind}
-use Rattle.timeline.proofs.RuleKinds.{place_in_kind-is}
+use Rattle.timeline.proofs.RuleKinds.{kind_of_year, months_by_leap, place_in_kind-is}
 
 -- a weekday n days later
 pub later_weekday : (v n : ℕ) (day : ℤ) → weekday_of day ≡ pos v → weekday_of (day +ℤ pos n) ≡ pos ((v + n) % 7)
-later_weekday v n day is =
-    let parts = weekday_of-parts day in
-    weekday_of-is (day +ℤ pos n) (int_div_euclid (day +ℤ pos 3) (pos 7) +ℤ pos ((v + n) / 7)) (pos ((v + n) % 7)) (omega (arith, ints, parts.0, is)) (omega (arith, ints)) (omega (arith, ints))
+later_weekday v n day is = omega (arith, signed_arith, is)
 
 -- and the day before
 earlier_weekday : (v : ℕ) (day : ℤ) → weekday_of day ≡ pos v → weekday_of (day -ℤ pos 1) ≡ pos ((v + 6) % 7)
-earlier_weekday v day is =
-    let parts = weekday_of-parts day in
-    weekday_of-is (day -ℤ pos 1) (int_div_euclid (day +ℤ pos 3) (pos 7) +ℤ pos ((v + 6) / 7) -ℤ pos 1) (pos ((v + 6) % 7)) (omega (arith, ints, parts.0, is)) (omega (arith, ints)) (omega (arith, ints))
+earlier_weekday v day is = omega (arith, signed_arith, is)
 
 -- two weekdays are equal where their test says so, and only there
 equal_weekdays : (d : ℤ) (v w : ℕ) → weekday_of d ≡ pos v → int_eq (weekday_of d) (pos w) ≡ true → v ≡ w
@@ -73,17 +67,6 @@ last_on-is (suc n) w v to h k is near = by (int_eq (weekday_of to) (pos w)) refl
 
 -- ---- kinds
 
-kind_by : (w : ℕ) (leap : Bool) (k : ℕ) → w < 7 → w + cond leap 7 0 ≡ k → (k % 7 ≡ w) × (nat_lt k 7 ≡ not leap)
-kind_by w true k h e = (omega (arith, e), grind (arith, nat_tests))
-kind_by w false k h e = (omega (arith, e), grind (arith, nat_tests))
-
-kind_of_year : (y : ℤ) (k : ℕ) → year_kind y ≡ k → (weekday_of (year_start y) ≡ pos (k % 7)) × (nat_lt k 7 ≡ not (is_leap_year y))
-kind_of_year y k e =
-    let parts = weekday_of-parts (year_start y) in
-    let one = one_part (weekday_of (year_start y)) in
-    let by = kind_by (unsigned_abs (weekday_of (year_start y))) (is_leap_year y) k (omega (arith, signed_arith, parts.1, parts.2, one)) (sym (year_kind-is y) ∙ e) in
-    (omega (arith, signed_arith, by.0, parts.1, one), by.1)
-
 pub weekday_in_kind : (y : ℤ) (k n : ℕ) → year_kind y ≡ k → weekday_of (year_start y +ℤ pos n) ≡ pos ((k % 7 + n) % 7)
 weekday_in_kind y k n e = later_weekday (k % 7) n (year_start y) (kind_of_year y k e).0
 
@@ -91,12 +74,12 @@ weekday_in_kind y k n e = later_weekday (k % 7) n (year_start y) (kind_of_year y
 pub months_in_common : (y : ℤ) (k : ℕ) → year_kind y ≡ k → k < 7 → (m : ℕ) → days_of_months y m ≡ days_of_months (pos 2001) m
 months_in_common y k e h =
     let leap : is_leap_year y ≡ false = grind (arith, nat_tests, (kind_of_year y k e).1) in
-    days_of_months-leap y (pos 2001) leap
+    months_by_leap y (pos 2001) leap
 
 pub months_in_leap : (y : ℤ) (k : ℕ) → year_kind y ≡ k → 7 ≤ k → (m : ℕ) → days_of_months y m ≡ days_of_months (pos 2000) m
 months_in_leap y k e h =
     let leap : is_leap_year y ≡ true = grind (arith, nat_tests, (kind_of_year y k e).1) in
-    days_of_months-leap y (pos 2000) leap
+    months_by_leap y (pos 2000) leap
 
 -- ---- the four kinds of code
 

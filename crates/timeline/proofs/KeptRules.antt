@@ -4,7 +4,6 @@ use Rattle.std.specs.Ordering.{int_eq}
 use Rattle.std.proofs.lemmas.Int.{ints}
 use Rattle.std.proofs.lemmas.List.FromFn.{get_or-map-range_with_len}
 use Rattle.civil.specs.Calendar.{year_start, year_kind}
-use Rattle.civil.proofs.YearKinds.{kind_below}
 use Rattle.timeline.specs.declared.offset.Transition.{Transition}
 use Rattle.timeline.specs.declared.rule.TimeMode.{TimeMode}
 use Rattle.timeline.specs.declared.rule.TimeMode.TheVariants.{Wall, Standard, Utc}
@@ -14,19 +13,20 @@ use Rattle.timeline.specs.RuleDays.{rule_date}
 use Rattle.timeline.specs.Rule.{rule_second, start_is_first, start_entry, end_entry, first_entry, second_entry}
 use Rattle.timeline.specs.DateView.{mode_number}
 use Rattle.timeline.specs.Kinds.{place_in_kind}
+use Rattle.civil.specs.Laws.{KindsOfYear}
+use Rattle.timeline.specs.RulePromises.{RulesGoByKind}
 use Rattle.timeline.specs.Inside.KeptRules.{places_of, time_mode, kind_date, KeptRule, kept_rule, taken_off, kind_second, kept_start, kept_end, LieWithin}
-use Rattle.timeline.proofs.RuleKinds.{rule_date-place}
 
 pub places_of-at : (r : DateRule) (k : ℕ) → k < 14 → get_or (places_of r) k (pos 0) ≡ place_in_kind r k
 unfolding places_of
 places_of-at r k h = get_or-map-range_with_len (place_in_kind r) 0 14 k k (pos 0) h (omega arith)
 
 -- where the places lie within, so does the date of each year
-pub date_within : (r : DateRule) (from to y : ℤ) → LieWithin (places_of r) from to → ((year_start y +ℤ from) ≤ℤ rule_date r y) × (rule_date r y ≤ℤ (year_start y +ℤ to))
-date_within r from to y within =
-    let place = places_of-at r (year_kind y) (kind_below y) in
-    let h = within (year_kind y) (kind_below y) in
-    (omega (arith, ints, rule_date-place r y, place, h.0), omega (arith, ints, rule_date-place r y, place, h.1))
+pub date_within : KindsOfYear → RulesGoByKind → (r : DateRule) (from to y : ℤ) → LieWithin (places_of r) from to → ((year_start y +ℤ from) ≤ℤ rule_date r y) × (rule_date r y ≤ℤ (year_start y +ℤ to))
+date_within kinds by_kind r from to y within =
+    let place = places_of-at r (year_kind y) (kinds.few y) in
+    let h = within (year_kind y) (kinds.few y) in
+    (omega (arith, ints, by_kind r y, place, h.0), omega (arith, ints, by_kind r y, place, h.1))
 
 mode_is : (a b : Bool) (before raw : ℤ) → taken_off (cond a Wall (cond b Standard Utc)) before raw ≡ cond a before (cond b raw (pos 0))
 mode_is true b before raw = refl
@@ -34,24 +34,24 @@ mode_is false true before raw = refl
 mode_is false false before raw = refl
 
 -- the second of a date in a year
-pub kind_second-is : (r : DateRule) (before raw y : ℤ) → kind_second (kind_date r) before raw (year_start y) (year_kind y) ≡ rule_second r before raw y
+pub kind_second-is : RulesGoByKind → (r : DateRule) (before raw y : ℤ) → year_kind y < 14 → kind_second (kind_date r) before raw (year_start y) (year_kind y) ≡ rule_second r before raw y
 unfolding rule_second
-kind_second-is r before raw y =
-    let place = places_of-at r (year_kind y) (kind_below y) in
+kind_second-is by_kind r before raw y h =
+    let place = places_of-at r (year_kind y) h in
     let mode = mode_is (r.mode == 0) (r.mode == 1) before raw in
-    omega (arith, ints, place, mode, rule_date-place r y)
+    omega (arith, ints, place, mode, by_kind r y)
 
 -- the transitions by what is kept are those of the rule
-pub kept_start-is : (r : PlainRule) (y : ℤ) → kept_start (kept_rule r) (year_start y) (year_kind y) ≡ start_entry r y
+pub kept_start-is : RulesGoByKind → (r : PlainRule) (y : ℤ) → year_kind y < 14 → kept_start (kept_rule r) (year_start y) (year_kind y) ≡ start_entry r y
 unfolding kept_rule
-kept_start-is r y = ap start (kind_second-is r.start r.raw r.raw y)
+kept_start-is by_kind r y h = ap start (kind_second-is by_kind r.start r.raw r.raw y h)
   where
     start : ℤ → Transition
     start s = record { since = s; offset = r.raw +ℤ r.extra; rule_applies = not (int_eq r.extra (pos 0)) }
 
-pub kept_end-is : (r : PlainRule) (y : ℤ) → kept_end (kept_rule r) (year_start y) (year_kind y) ≡ end_entry r y
+pub kept_end-is : RulesGoByKind → (r : PlainRule) (y : ℤ) → year_kind y < 14 → kept_end (kept_rule r) (year_start y) (year_kind y) ≡ end_entry r y
 unfolding kept_rule
-kept_end-is r y = ap end (kind_second-is r.end (r.raw +ℤ r.extra) r.raw y)
+kept_end-is by_kind r y h = ap end (kind_second-is by_kind r.end (r.raw +ℤ r.extra) r.raw y h)
   where
     end : ℤ → Transition
     end s = record { since = s; offset = r.raw; rule_applies = false }
@@ -65,12 +65,12 @@ pub record InOrder (r : PlainRule) (y : ℤ) (first : Bool) (start end : Transit
   pub first_is : cond first start end ≡ first_entry r y
   pub second_is : cond first end start ≡ second_entry r y
 
-pub in_order : (r : PlainRule) (k : KeptRule) (y day : ℤ) (kind : ℕ) (first : Bool) (start end : Transition) → k ≡ kept_rule r → day ≡ year_start y → kind ≡ year_kind y
+pub in_order : RulesGoByKind → (r : PlainRule) (k : KeptRule) (y day : ℤ) (kind : ℕ) (first : Bool) (start end : Transition) → year_kind y < 14 → k ≡ kept_rule r → day ≡ year_start y → kind ≡ year_kind y
     → first ≡ k.start_is_first → start ≡ kept_start k day kind → end ≡ kept_end k day kind → InOrder r y first start end
-in_order r k y day kind first start end is d e f s t =
+in_order by_kind r k y day kind first start end h is d e f s t =
     let first_is : first ≡ start_is_first r = f ∙ ap (λ (k : KeptRule). k.start_is_first) is ∙ kept-first r in
-    let start_is : start ≡ start_entry r y = s ∙ rw (is, d, e) (kept_start-is r y) in
-    let end_is : end ≡ end_entry r y = t ∙ rw (is, d, e) (kept_end-is r y) in
+    let start_is : start ≡ start_entry r y = s ∙ rw (is, d, e) (kept_start-is by_kind r y h) in
+    let end_is : end ≡ end_entry r y = t ∙ rw (is, d, e) (kept_end-is by_kind r y h) in
     record { first_is = rw (first_is, start_is, end_is) refl; second_is = rw (first_is, start_is, end_is) refl }
 
 -- what is kept of a rule, part by part

@@ -1,39 +1,40 @@
-pub mod Entries
-pub mod Places
-pub mod Chain
-pub mod ChainWalls
-pub mod TimelineEntries
-pub mod TimelineRises
-pub mod TimelineYears
+mod Years
+mod Entries
+mod Places
+mod Chain
+mod ChainWalls
+mod TimelineEntries
+mod TimelineRises
+mod TimelineYears
 pub mod WallSeconds
 pub mod SmallOffsets
-pub mod TablePlaces
-pub mod Candidates
-pub mod WallAnswers
-pub mod CandidateAnswers
-pub mod LookupsByWall
-pub mod LookupsBySecond
-pub mod ClockYears
-pub mod YearEntries
-pub mod Placing
-pub mod RuleKinds
-pub mod KeptRules
-pub mod DatePlaces
-pub mod LeastFaults
-pub mod CheckLaws
-pub mod CheckYears
-pub mod CheckWhole
-pub mod Apart
-pub mod YearsApart
-pub mod Probes
-pub mod TableEntries
-pub mod TableRanges
+mod TablePlaces
+mod Candidates
+mod WallAnswers
+mod CandidateAnswers
+mod LookupsByWall
+mod LookupsBySecond
+mod ClockYears
+mod YearEntries
+mod Placing
+mod RuleKinds
+mod KeptRules
+mod DatePlaces
+mod LeastFaults
+mod CheckLaws
+mod CheckYears
+mod CheckWhole
+mod Apart
+mod YearsApart
+mod Probes
+mod TableEntries
+mod TableRanges
 pub mod OffsetChanges
-pub mod OneHolds
-pub mod Verdicts
+mod OneHolds
+mod Verdicts
 mod ZoneExamples
-pub mod NearestDays
-pub mod EqualTables
-pub mod Nexts
-pub mod NextYears
-pub mod NextAnswers
+mod NearestDays
+mod EqualTables
+mod Nexts
+mod NextYears
+mod NextAnswers

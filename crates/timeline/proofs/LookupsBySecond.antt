@@ -15,7 +15,8 @@ use Rattle.timeline.specs.WallPromises.{IsOfYear}
 use Rattle.timeline.proofs.Chain.{is_at}
 use Rattle.timeline.proofs.TimelineEntries.{IsRuleYear, table_entry, first_at, second_at, before_next, entry_count, entry_within, entry_there, table_counted, CountsTo, counts_to}
 use Rattle.timeline.proofs.TimelineRises.{if_some, before_first, before_second, since_is, lawful_chain}
-use Rattle.timeline.proofs.TimelineYears.{years_rise, years_from, ends_before, starts_from, before_end, rule_of}
+use Rattle.timeline.proofs.Years.{years_rise}
+use Rattle.timeline.proofs.TimelineYears.{years_from, ends_before, starts_from, before_end, rule_of}
 use Rattle.timeline.proofs.TablePlaces.{IsTablePlace, table_placed}
 use Rattle.timeline.proofs.WallSeconds.{IsPlace, offset_there}
 

@@ -16,7 +16,8 @@ use Rattle.timeline.specs.WallPromises.{IsOfYear}
 use Rattle.timeline.proofs.ChainWalls.{IsAhead}
 use Rattle.timeline.proofs.TimelineEntries.{IsRuleYear, is_there, table_entry, first_at, second_at, entry_count, entry_within, table_counted, CountsTo, counts_to}
 use Rattle.timeline.proofs.TimelineRises.{step_of, before_first}
-use Rattle.timeline.proofs.TimelineYears.{years_rise, years_from, ends_before, before_end}
+use Rattle.timeline.proofs.Years.{years_rise}
+use Rattle.timeline.proofs.TimelineYears.{years_from, ends_before, before_end}
 use Rattle.timeline.proofs.TablePlaces.{IsTablePlace, table_placed}
 use Rattle.timeline.proofs.Candidates.{ends_behind, year_behind, year_ahead, past_ahead, table_behind, table_ahead}
 use Rattle.timeline.proofs.CandidateAnswers.{IsRun, EndsBehind, StartsAhead, run_answers, says_last}

@@ -3,25 +3,18 @@ use Rattle.std.proofs.Common.{◌≡◌, ℕ, ◌+◌, ◌-◌, ◌<◌, ◌%◌
 use Rattle.std.specs.Prelude.{unsigned_abs}
 use Rattle.std.proofs.lemmas.Int.{ints}
 use Rattle.civil.specs.Calendar.{weekday_of}
-use Rattle.civil.proofs.YearKinds.{weekday_of-parts}
-use Rattle.jiff_core.proofs.SignedLemmas.{signed_arith, one_part}
+use Rattle.jiff_core.proofs.SignedLemmas.{signed_arith}
 use Rattle.timeline.specs.RuleDays.{first_on, last_on}
 use Rattle.timeline.specs.RulePromises.{IsFirstFrom, IsLastTo}
 use Rattle.timeline.proofs.DatePlaces.{first_on-is, last_on-is, later_weekday}
 
 -- a weekday is a number below 7
 numbered : (day : ℤ) → (v : ℕ) × (weekday_of day ≡ pos v) × (v < 7)
-numbered day =
-    let parts = weekday_of-parts day in
-    let one = one_part (weekday_of day) in
-    (unsigned_abs (weekday_of day), omega (arith, signed_arith, parts.1, one), omega (arith, signed_arith, parts.1, parts.2, one))
+numbered day = (unsigned_abs (weekday_of day), omega (arith, signed_arith), omega (arith, signed_arith))
 
 -- days of one weekday are whole weeks apart
 weeks_apart : (d e w : ℤ) → weekday_of d ≡ w → weekday_of e ≡ w → (d -ℤ pos 7 +ℤ pos 1) ≤ℤ e → d ≤ℤ e
-weeks_apart d e w is_d is_e near =
-    let left = weekday_of-parts d in
-    let right = weekday_of-parts e in
-    omega (arith, ints, left.0, right.0, is_d, is_e, near)
+weeks_apart d e w is_d is_e near = omega (arith, signed_arith, is_d, is_e, near)
 
 pub first-is : (w : ℕ) (from : ℤ) → w < 7 → IsFirstFrom (pos w) from (first_on 6 (pos w) from)
 first-is w from h = rw is (record { weekday = weekday; begins = omega (arith, ints); first = λ e low same. weeks_apart _ e (pos w) weekday same (omega (arith, ints, low, few)) })
@@ -66,8 +59,4 @@ last-is w to h = rw is (record { weekday = weekday; ends = omega (arith, ints); 
     is = last_on-is 6 w v to h lt here (omega arith)
 
     weekday : weekday_of (to -ℤ pos k) ≡ pos w
-    weekday =
-        let back = numbered (to -ℤ pos k) in
-        let parts = weekday_of-parts (to -ℤ pos k) in
-        let whole = weekday_of-parts to in
-        omega (arith, ints, parts.0, parts.1, parts.2, whole.0, here, h, lt)
+    weekday = omega (arith, signed_arith, here, h, lt)

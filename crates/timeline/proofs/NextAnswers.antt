@@ -20,7 +20,8 @@ use Rattle.timeline.specs.Inside.TransitionSteps.{FirstIn, FirstFrom, LastBelow,
 use Rattle.timeline.proofs.Entries.{below_or_not}
 use Rattle.timeline.proofs.TimelineEntries.{IsRuleYear, table_entry, first_at, second_at, is_there, entry_within}
 use Rattle.timeline.proofs.TimelineRises.{if_some, before_first, before_second}
-use Rattle.timeline.proofs.TimelineYears.{years_rise, years_from, ends_before, starts_from, rule_of}
+use Rattle.timeline.proofs.Years.{years_rise}
+use Rattle.timeline.proofs.TimelineYears.{years_from, ends_before, starts_from, rule_of}
 use Rattle.timeline.proofs.TablePlaces.{table_placed, table_rises}
 use Rattle.timeline.proofs.YearEntries.{IsInRule, in_rule, in_year_of, IsPastRule, past_rule, from_year}
 use Rattle.timeline.proofs.Nexts.{is_cut, answers_next, answers_prev}

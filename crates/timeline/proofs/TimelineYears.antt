@@ -2,18 +2,15 @@
 use Rattle.std.proofs.Common.{◌≡◌, ℕ, zero, suc, ◌+◌, ◌*◌, ◌<◌, ◌≤◌, length, Some, ℤ, pos, negsuc, ◌+ℤ◌, ◌-ℤ◌, ◌≤ℤ◌, refl, ◌∙◌, arith}
 use Rattle.std.proofs.lemmas.Int.{ints}
 use Rattle.civil.specs.Calendar.{year_second}
-use Rattle.civil.proofs.CalendarLemmas.{starts_in_order}
 use Rattle.timeline.specs.declared.offset.Transition.{Transition}
 use Rattle.timeline.specs.Zone.{PlainZone, PlainRule}
 use Rattle.timeline.specs.Rule.{second_entry}
 use Rattle.timeline.specs.Timeline.{entry_at, before_entry, offset_of}
 use Rattle.timeline.specs.Laws.{IsLawful, EndsBefore}
 use Rattle.timeline.specs.Neighbours.{Step, old_wall, new_wall}
+use Rattle.timeline.proofs.Years.{years_rise}
 use Rattle.timeline.proofs.TimelineEntries.{IsRuleYear, Stands, in_table, is_first, is_second, stands, second_at, before_next, same_second}
 use Rattle.timeline.proofs.TimelineRises.{if_some, step_of, LiesInYear, first_lies, second_lies, table_ends, same_rule}
-
-pub years_rise : (x y : ℤ) → x ≤ℤ y → year_second x ≤ℤ year_second y
-years_rise x y le = omega (arith, ints, starts_in_order x y le)
 
 -- a later year is so many years later
 pub years_from : (x y : ℤ) → x ≤ℤ y → (j : ℕ) × ((x +ℤ pos j) ≡ y)

@@ -17,7 +17,7 @@ use Rattle.timeline.specs.WallPromises.{IsOfYear}
 use Rattle.timeline.specs.Inside.YearEntries.{rule_entries_in, entries_in, IsNearestYear, inside, before, after, StartsInside}
 use Rattle.timeline.proofs.Entries.{int_lt_true, int_lt_false, int_lt-true, int_lt-false}
 use Rattle.timeline.proofs.TimelineEntries.{same_second}
-use Rattle.timeline.proofs.TimelineYears.{years_rise}
+use Rattle.timeline.proofs.Years.{years_rise}
 use Rattle.timeline.proofs.LookupsByWall.{answers_by_rule, answers_past_rule}
 use Rattle.timeline.proofs.LookupsBySecond.{offset_by_year, offset_past_rule}
 

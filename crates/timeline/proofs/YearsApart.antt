@@ -2,6 +2,8 @@
 use Rattle.std.proofs.Common.{◌≡◌, ◌≤◌, ◌==◌, Bool, true, false, cond, ℤ, pos, ◌+ℤ◌, ◌-ℤ◌, ◌*ℤ◌, ◌<ℤ◌, ◌≤ℤ◌, sym, ap, subst, ◌∙◌, arith}
 use Rattle.std.proofs.lemmas.Int.{ints}
 use Rattle.civil.specs.Calendar.{year_second}
+use Rattle.civil.specs.Laws.{CountsYears, KindsOfYear}
+use Rattle.timeline.specs.RulePromises.{RulesGoByKind}
 use Rattle.timeline.specs.declared.fault.ZoneFault.{ZoneFault}
 use Rattle.timeline.specs.Zone.{DateRule, PlainRule}
 use Rattle.timeline.specs.Rule.{rule_second, start_is_first, first_entry, second_entry}
@@ -76,18 +78,18 @@ record LiesNear (y from to second : ℤ) : Type 0 where
   low : (year_second y +ℤ pos 86400 *ℤ (from -ℤ pos 1)) <ℤ second
   high : second <ℤ (year_second y +ℤ pos 86400 *ℤ (to +ℤ pos 2))
 
-second_near : (r : DateRule) (before raw from to y : ℤ) → r.seconds ≤ 86400 → IsSmall before → IsSmall raw → LieWithin (places_of r) from to → LiesNear y from to (rule_second r before raw y)
+second_near : KindsOfYear → RulesGoByKind → (r : DateRule) (before raw from to y : ℤ) → r.seconds ≤ 86400 → IsSmall before → IsSmall raw → LieWithin (places_of r) from to → LiesNear y from to (rule_second r before raw y)
 unfolding rule_second
-second_near r before raw from to y seconds b s within =
-    let date = date_within r from to y within in
+second_near kinds by_kind r before raw from to y seconds b s within =
+    let date = date_within kinds by_kind r from to y within in
     let counted = small_counted (r.mode == 0) (r.mode == 1) before raw b s in
     record { low = omega (arith, ints, date.0, counted.1); high = omega (arith, ints, date.1, counted.0, seconds) }
 
-halves_apart : (y a b : ℤ) → LiesNear y (pos 2) (pos 180) a → LiesNear y (pos 185) (pos 362) b → LieApart (year_second y) a b (year_second (y +ℤ pos 1))
-halves_apart y a b h t = record {
+halves_apart : CountsYears → (y a b : ℤ) → LiesNear y (pos 2) (pos 180) a → LiesNear y (pos 185) (pos 362) b → LieApart (year_second y) a b (year_second (y +ℤ pos 1))
+halves_apart counts y a b h t = record {
   begin = omega (arith, ints, h.low);
   between = omega (arith, ints, h.high, t.low);
-  end = omega (arith, ints, t.high, year_long y);
+  end = omega (arith, ints, t.high, year_long counts y);
 }
 
 -- a rule with offsets of less than a day, the places of whose dates lie within those given
@@ -100,20 +102,20 @@ pub record LieInHalves (k : KeptRule) (start_from start_to end_from end_to : ℤ
   pub end : LieWithin k.end.places end_from end_to
 
 -- its transitions lie apart in each year, whichever is first
-pub start_apart : (r : PlainRule) (k : KeptRule) (y : ℤ) → k ≡ kept_rule r → k.start_is_first ≡ true → LieInHalves k (pos 2) (pos 180) (pos 185) (pos 362)
+pub start_apart : CountsYears → KindsOfYear → RulesGoByKind → (r : PlainRule) (k : KeptRule) (y : ℤ) → k ≡ kept_rule r → k.start_is_first ≡ true → LieInHalves k (pos 2) (pos 180) (pos 185) (pos 362)
     → LieApart (year_second y) (first_entry r y).since (second_entry r y).since (year_second (y +ℤ pos 1))
 unfolding kept_rule
-start_apart r k y is first k_lies =
+start_apart counts kinds by_kind r k y is first k_lies =
     let P : KeptRule → Type 0 = λ k. LieInHalves k (pos 2) (pos 180) (pos 185) (pos 362) in
     let h = subst P is k_lies in
     let first_is : start_is_first r ≡ true = sym (ap (λ (k : KeptRule). k.start_is_first) is) ∙ first in
-    rw first_is (halves_apart y _ _ (second_near r.start r.raw r.raw _ _ y h.start_seconds h.raw h.raw h.start) (second_near r.end (r.raw +ℤ r.extra) r.raw _ _ y h.end_seconds h.sum h.raw h.end))
+    rw first_is (halves_apart counts y _ _ (second_near kinds by_kind r.start r.raw r.raw _ _ y h.start_seconds h.raw h.raw h.start) (second_near kinds by_kind r.end (r.raw +ℤ r.extra) r.raw _ _ y h.end_seconds h.sum h.raw h.end))
 
-pub end_apart : (r : PlainRule) (k : KeptRule) (y : ℤ) → k ≡ kept_rule r → k.start_is_first ≡ false → LieInHalves k (pos 185) (pos 362) (pos 2) (pos 180)
+pub end_apart : CountsYears → KindsOfYear → RulesGoByKind → (r : PlainRule) (k : KeptRule) (y : ℤ) → k ≡ kept_rule r → k.start_is_first ≡ false → LieInHalves k (pos 185) (pos 362) (pos 2) (pos 180)
     → LieApart (year_second y) (first_entry r y).since (second_entry r y).since (year_second (y +ℤ pos 1))
 unfolding kept_rule
-end_apart r k y is first k_lies =
+end_apart counts kinds by_kind r k y is first k_lies =
     let P : KeptRule → Type 0 = λ k. LieInHalves k (pos 185) (pos 362) (pos 2) (pos 180) in
     let h = subst P is k_lies in
     let first_is : start_is_first r ≡ false = sym (ap (λ (k : KeptRule). k.start_is_first) is) ∙ first in
-    rw first_is (halves_apart y _ _ (second_near r.end (r.raw +ℤ r.extra) r.raw _ _ y h.end_seconds h.sum h.raw h.end) (second_near r.start r.raw r.raw _ _ y h.start_seconds h.raw h.raw h.start))
+    rw first_is (halves_apart counts y _ _ (second_near kinds by_kind r.end (r.raw +ℤ r.extra) r.raw _ _ y h.end_seconds h.sum h.raw h.end) (second_near kinds by_kind r.start r.raw r.raw _ _ y h.start_seconds h.raw h.raw h.start))

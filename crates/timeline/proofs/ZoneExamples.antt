@@ -1,9 +1,7 @@
 -- Worked examples of rules, timelines, gaps and laws. Each holds as both sides compute.
 use Rattle.std.proofs.Common.{◌≡◌, true, false, refl, ap, pos, negsuc, ◌<ℤ◌, Some, None, [], ◌∷◌, arith}
 use Rattle.std.proofs.lemmas.Int.{ints}
-use Rattle.civil.specs.Calendar.{year_start, days_of_months, year_second}
-use Rattle.civil.specs.Inside.LeapDays.{leap_days_to}
-use Rattle.civil.proofs.CalendarLemmas.{year_start-closed}
+use Rattle.civil.specs.Calendar.{days_from_zero, year_start, days_of_months, year_second}
 use Rattle.timeline.specs.declared.offset.Offset.{Offset}
 use Rattle.timeline.specs.declared.offset.Transition.{Transition}
 use Rattle.timeline.specs.Zone.{DateRule, PlainRule, PlainZone}
@@ -14,12 +12,12 @@ use Rattle.timeline.specs.Placement.{IsGapOf}
 use Rattle.timeline.specs.Laws.{KeepsBefore}
 
 start_2008 : year_start (pos 2008) ≡ pos 13879
-unfolding leap_days_to
-start_2008 = year_start-closed (pos 2008) (pos 2007) refl
+unfolding year_start days_from_zero
+start_2008 = refl
 
 start_2025 : year_start (pos 2025) ≡ pos 20089
-unfolding leap_days_to
-start_2025 = year_start-closed (pos 2025) (pos 2024) refl
+unfolding year_start days_from_zero
+start_2025 = refl
 
 -- the first Sunday not before 8 March, and not before 1 November, both at 2:00 by the wall
 abbrev us_start : DateRule

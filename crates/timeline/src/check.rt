@@ -18,6 +18,7 @@ use crate::dates::ZoneRule;
 use crate::fault::{ZoneFault, least_of};
 use crate::offset::{Offset, Transition};
 use crate::rule::YearRule;
+use civil::laws::{counts_years, example_years, kinds_of_year};
 use std::sync::ledger::Ledger;
 use steps::Steps;
 use years::{example_year, first_second, seconds_of_kind};
@@ -386,6 +387,8 @@ fn year_fault<L: Ledger>(rule: &YearRule, kind: u8, steps: &mut Steps<L>) -> Res
         → TellsLeast (YearKeeps r (example_year kind)) result }
     ensures ticks { steps.new ≡ steps.old + 1 }
 {
+    counts_years();
+    example_years();
     let year = example_year(kind);
     let (before, first, second) = rule.year_at(year, steps);
     let low = first_second(year);
@@ -415,6 +418,9 @@ fn years_fault<L: Ledger>(rule: &YearRule, steps: &mut Steps<L>) -> Result<(), Z
     ensures value { (r : PlainRule) → rule.now ≡ kept_rule r → TellsLeast (YearsKeep r) result }
     ensures ticks { steps.new ≤ steps.old + 14 }
 {
+    counts_years();
+    kinds_of_year();
+    example_years();
     let (raw, sum) = rule.offsets();
     if are_small(raw, sum) && rule.places_lie_apart() {
         return Ok(());

@@ -13,6 +13,7 @@ ghost use Rattle.timeline.specs.Ranges.{IsDateInRange, AreDatesInRange};
 
 use crate::rule::{KindDate, TimeMode, YearRule};
 use civil::days_before_month;
+use civil::laws::example_years;
 use std::marker::Model;
 
 /// Which day of its month the day of a rule's date names. A weekday counts from Sunday, 0 to 6.
@@ -176,6 +177,7 @@ fn place(month: u32, day: i32, rule: DayRule, kind: u8) -> i16
     ensures { (r : DateRule) → r.month ≡ month → r.day ≡ day → r.code ≡ day_code rule
         → result ≡ place_in_kind r kind }
 {
+    example_years();
     let first = month_place(month, kind);
     let anchor = first + day.unsigned_abs() - 1;
     match rule {

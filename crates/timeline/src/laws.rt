@@ -5,6 +5,8 @@ ghost use Rattle.timeline.specs.WallPromises.{WallSecondsShow, WallSecondsArePla
 ghost use Rattle.timeline.specs.RulePromises.{RuleDaysAreNearest, RulesGoByKind, RulesRepeat};
 ghost use Rattle.timeline.specs.OffsetPromises.{OffsetsChangeAtEntries, EntriesChangeOffsets, SidesHoldAtTheTwo};
 
+use civil::laws::{example_years, kinds_of_year, years_repeat};
+
 /// The offset at a second is that of the last entry not after it, or the initial one where all entries are after it.
 pub fn last_entry_holds()
     ensures { LastEntryHolds }
@@ -67,12 +69,17 @@ pub fn rule_days_are_nearest()
 /// The date of a rule in a year is the year's first day plus a number that depends on the kind of the year alone.
 pub fn rules_go_by_kind()
     ensures { RulesGoByKind }
-{}
+{
+    kinds_of_year();
+    example_years();
+}
 
 /// The transitions of a rule in a year come again after 400 years, which are 146,097 days, with the same offsets.
 pub fn rules_repeat()
     ensures { RulesRepeat }
-{}
+{
+    years_repeat();
+}
 
 /// In a lawful zone the offset changes nowhere but at the second of an entry, from the one before the entry to its own.
 pub fn offsets_change_at_entries()

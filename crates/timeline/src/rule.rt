@@ -10,7 +10,9 @@ ghost use Rattle.timeline.specs.Timeline.{offset_of};
 ghost use Rattle.timeline.specs.Inside.KeptRules.{KeptRule, kept_rule, kind_second, taken_off, kept_start, kept_end, IsYearOf, LieWithin};
 ghost use Rattle.timeline.specs.Inside.Apart.{LieApart};
 
+use crate::laws::rules_go_by_kind;
 use crate::offset::{Offset, Transition, UtcOffset};
+use civil::laws::{counts_years, kinds_of_year};
 use civil::{days_before_year, year_kind};
 use std::marker::Model;
 use std::sync::ledger::Ledger;
@@ -312,6 +314,7 @@ impl YearRule {
         ensures second { (r : PlainRule) (y : ℤ) → self.now ≡ kept_rule r → IsYearOf y day kind
             → result.2 ≡ second_entry r y }
     {
+        rules_go_by_kind();
         in_order(
             self.start_is_first,
             self.start_in(day, kind),
@@ -329,6 +332,9 @@ impl YearRule {
             → LieApart (year_second y) (first_entry r y).since (second_entry r y).since
             (year_second (y +ℤ pos 1)) }
     {
+        counts_years();
+        kinds_of_year();
+        rules_go_by_kind();
         if self.start_is_first {
             lie_in_halves(&self.start, &self.end)
         } else {

@@ -24,7 +24,7 @@ returns-clause-value g c = λ r is.
     let low = to_z w64 (of_z w64 c.first_second-low.result) in
     let high = to_z w64 (of_z w64 (low +ℤ to_z w64 (of_z w64 c.seconds_of_kind.result))) in
     let low_is : low ≡ year_second y = to_z-of_z low_fits ∙ c.first_second-low.ensures.value ∙ ap year_second year in
-    let high_is : high ≡ year_second (y +ℤ pos 1) = omega (arith, signed_arith, low_is, c.first_second-low.ensures.low, c.first_second-low.ensures.high, c.seconds_of_kind.ensures, example_high k c.requires.kind) in
+    let high_is : high ≡ year_second (y +ℤ pos 1) = omega (arith, signed_arith, low_is, c.first_second-low.ensures.low, c.first_second-low.ensures.high, c.seconds_of_kind.ensures, example_high c.example_years.ensures c.counts_years.ensures k c.requires.kind) in
     let one = c.step_walls.ensures ∙ ap (λ o. walls (step o c.year_at-before.result.1)) before ∙ ap (λ e. walls (step (offset_of (second_entry r y)) e)) first in
     let other = c.step_walls-2.ensures ∙ ap (λ o. walls (step o c.year_at-before.result.2)) (c.offset_from-between.ensures ∙ ap offset_of first) ∙ ap (λ e. walls (step (offset_of (first_entry r y)) e)) second in
     year_told r y c.step_walls.result c.step_walls-2.result low high c.pair_fault.result one other low_is high_is c.pair_fault.ensures

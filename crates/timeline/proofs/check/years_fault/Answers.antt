@@ -38,4 +38,4 @@ returns-clause-value g c = λ r is.
     let all : c.loop-kind.kind ≡ 14 = omega (arith, c.loop-kind.auto.kind-end) in
     let P : ℕ → Type 0 = λ n. TellsLeast (λ f. (m : ℕ) → m < n → YearKeeps r (example_year m) f) c.loop-kind.least in
     let first : c.args.rule.now.first_year ≡ r.first_year = ap (λ (k : KeptRule). k.first_year) is ∙ kept-year r in
-    years_told r c.loop-kind.least (omega (arith, signed_arith, first, c.offsets-raw.ensures.years)) (subst P all (c.loop-kind.invariant.told r is))
+    years_told c.counts_years.ensures c.kinds_of_year.ensures c.example_years.ensures r c.loop-kind.least (omega (arith, signed_arith, first, c.offsets-raw.ensures.years)) (subst P all (c.loop-kind.invariant.told r is))

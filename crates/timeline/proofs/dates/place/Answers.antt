@@ -3,7 +3,6 @@ use Rattle.std.specs.Prelude.{unsigned_abs, int_lt}
 use Rattle.std.proofs.lemmas.Bool.{lt-ltb}
 use Rattle.civil.specs.Calendar.{year_start, days_of_months, example_year}
 use Rattle.jiff_core.proofs.SignedLemmas.{signed_casts}
-use Rattle.civil.proofs.YearKinds.{kind_of_example}
 use Rattle.timeline.specs.RuleDays.{first_on, last_on, code_weekday}
 use Rattle.timeline.specs.DateView.{day_code}
 use Rattle.timeline.proofs.DatePlaces.{place_anchor, place_from_month, place_from_anchor, place_to_anchor, is_zero, is_no_zero}
@@ -11,7 +10,7 @@ use Rattle.timeline.proofs.dates.place.Goals as goal
 
 pub returns-in-InMonth : goal.returns-in-InMonth
 returns-in-InMonth c = λ r month day code.
-    let first = c.month_place-first.ensures.value (example_year c.args.kind) (kind_of_example c.args.kind c.requires.kind) ∙ ap (days_of_months (example_year c.args.kind)) (sym month) in
+    let first = c.month_place-first.ensures.value (example_year c.args.kind) (c.example_years.ensures c.args.kind c.requires.kind) ∙ ap (days_of_months (example_year c.args.kind)) (sym month) in
     let size : c.unsigned_abs.result ≡ unsigned_abs r.day = c.unsigned_abs.ensures.value ∙ ap unsigned_abs (to_z-of_z c.ranges.day ∙ sym day) in
     let none : r.code ≡ pos 0 = code ∙ ap day_code c.in-InMonth.is in
     let some : 1 ≤ unsigned_abs r.day = omega (arith, c.requires.some_day, ap unsigned_abs day) in
@@ -21,7 +20,7 @@ returns-in-InMonth c = λ r month day code.
 pub returns-in-Nth : goal.returns-in-Nth
 returns-in-Nth c = λ r month day code.
     let y = example_year c.args.kind in
-    let kind = kind_of_example c.args.kind c.requires.kind in
+    let kind = c.example_years.ensures c.args.kind c.requires.kind in
     let first = c.month_place-first.ensures.value y kind ∙ ap (days_of_months y) (sym month) in
     let same : r.code ≡ pos (suc c.in-Nth.weekday) = code ∙ ap day_code c.in-Nth.is in
     let weekday : pos c.from_monday.result ≡ code_weekday r.code = c.from_monday.ensures.counted ∙ ap code_weekday (sym same) in
@@ -34,7 +33,7 @@ returns-in-Nth c = λ r month day code.
 pub returns-then-day-gt0 : goal.returns-then-day-gt0
 returns-then-day-gt0 c = λ r month day code.
     let y = example_year c.args.kind in
-    let kind = kind_of_example c.args.kind c.requires.kind in
+    let kind = c.example_years.ensures c.args.kind c.requires.kind in
     let first = c.month_place-first.ensures.value y kind ∙ ap (days_of_months y) (sym month) in
     let same : r.code ≡ negsuc c.in-Beside.weekday = code ∙ ap day_code c.in-Beside.is in
     let same_day : to_z w32 (of_z w32 c.args.day) ≡ r.day = to_z-of_z c.ranges.day ∙ sym day in
@@ -52,7 +51,7 @@ returns-then-day-gt0 c = λ r month day code.
 pub returns-else-day-gt0 : goal.returns-else-day-gt0
 returns-else-day-gt0 c = λ r month day code.
     let y = example_year c.args.kind in
-    let kind = kind_of_example c.args.kind c.requires.kind in
+    let kind = c.example_years.ensures c.args.kind c.requires.kind in
     let first = c.month_place-first.ensures.value y kind ∙ ap (days_of_months y) (sym month) in
     let same : r.code ≡ negsuc c.in-Beside.weekday = code ∙ ap day_code c.in-Beside.is in
     let same_day : to_z w32 (of_z w32 c.args.day) ≡ r.day = to_z-of_z c.ranges.day ∙ sym day in

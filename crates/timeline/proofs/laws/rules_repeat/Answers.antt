@@ -3,6 +3,6 @@ use Rattle.timeline.proofs.laws.rules_repeat.Goals as goal
 
 pub returns : goal.returns
 returns c = record {
-  first = first_entry-400;
-  second = second_entry-400;
+  first = first_entry-400 c.years_repeat.ensures;
+  second = second_entry-400 c.years_repeat.ensures;
 }
