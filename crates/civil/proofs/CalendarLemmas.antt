@@ -4,6 +4,7 @@ use Rattle.std.proofs.lemmas.Bool.Decides.{nat_tests}
 use Rattle.std.proofs.lemmas.Int.{by_lt_z}
 use Rattle.civil.specs.Calendar.{is_leap_year, days_in_year, days_in_month, days_from_zero, days_to_zero, year_start, days_of_months, day_of}
 use Rattle.civil.specs.CivilDates.{HoldsDay, IsDate, IsDay}
+use Rattle.civil.specs.DateLaws.{YearsHaveTheirDays}
 use Rattle.civil.specs.Inside.LeapDays.{leap_days_to}
 use Rattle.civil.specs.Laws.{CountsYears}
 use Rattle.jiff_core.proofs.SignedLemmas.{signed_arith, one_part}
@@ -163,18 +164,28 @@ pub last_start_i32 : year_start (pos 2147483648) ≡ pos 784351576777
 unfolding leap_days_to
 last_start_i32 = year_start-after (pos 2147483647)
 
--- a later year starts later
-start_up : (y : ℤ) (k : ℕ) → year_start y ≤ℤ year_start (y +ℤ pos k)
-start_up y zero = let same : y +ℤ pos 0 ≡ y = omega (arith, signed_arith) in rw same (omega (arith, signed_arith))
-start_up y (suc k) =
+-- a year that is k years later starts 365 or 366 days later for each of them
+start_later : (y : ℤ) (k : ℕ) → ((year_start y +ℤ pos (365 * k)) ≤ℤ year_start (y +ℤ pos k)) × (year_start (y +ℤ pos k) ≤ℤ (year_start y +ℤ pos (366 * k)))
+start_later y zero = let same : y +ℤ pos 0 ≡ y = omega (arith, signed_arith) in rw same (omega (arith, signed_arith), omega (arith, signed_arith))
+start_later y (suc k) =
     let next : y +ℤ pos (suc k) ≡ (y +ℤ pos k) +ℤ pos 1 = omega (arith, signed_arith) in
-    rw next (omega (arith, signed_arith, start_up y k, year_start-next (y +ℤ pos k)))
+    let low = (start_later y k).0 in
+    let high = (start_later y k).1 in
+    let few : (365 ≤ days_in_year (y +ℤ pos k)) × (days_in_year (y +ℤ pos k) ≤ 366) = (grind arith, grind arith) in
+    rw next (omega (arith, signed_arith, low, year_start-next (y +ℤ pos k), few), omega (arith, signed_arith, high, year_start-next (y +ℤ pos k), few))
 
 -- the same for any two years
-pub starts_in_order : (y z : ℤ) → y ≤ℤ z → year_start y ≤ℤ year_start z
-starts_in_order y z h =
+pub later_starts : (y z : ℤ) → y ≤ℤ z → ((pos 365 *ℤ (z -ℤ y)) ≤ℤ (year_start z -ℤ year_start y)) × ((year_start z -ℤ year_start y) ≤ℤ (pos 366 *ℤ (z -ℤ y)))
+later_starts y z h =
     let there : y +ℤ pos (unsigned_abs (z -ℤ y)) ≡ z = omega (arith, signed_arith, one_part (z -ℤ y)) in
-    rw there at (start_up y (unsigned_abs (z -ℤ y)))
+    let steps = rw there at (start_later y (unsigned_abs (z -ℤ y))) in
+    (omega (arith, signed_arith, one_part (z -ℤ y), steps.0), omega (arith, signed_arith, one_part (z -ℤ y), steps.1))
+
+pub starts_in_order : (y z : ℤ) → y ≤ℤ z → year_start y ≤ℤ year_start z
+starts_in_order y z h = omega (arith, signed_arith, later_starts y z h)
+
+pub years_have_their_days : YearsHaveTheirDays
+years_have_their_days = record { least = λ y z h. (later_starts y z h).0; most = λ y z h. (later_starts y z h).1 }
 
 -- each date has a day number of the calendar
 pub in_calendar : (y : ℤ) (m d : ℕ) → IsDate y m d → IsDay (day_of y m d)

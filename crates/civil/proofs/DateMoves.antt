@@ -1,29 +1,23 @@
 -- A date moved by months is a date of the calendar exactly where its day is one.
-use Rattle.std.proofs.Common.{◌≡◌, ℕ, zero, suc, ◌+◌, ◌-◌, ◌<◌, ◌≤◌, ◌↔◌, inl, inr, min, sym, ap, subst, ◌∙◌, arith, ℤ, pos, ◌+ℤ◌}
+use Rattle.std.proofs.Common.{◌≡◌, ℕ, zero, suc, ◌+◌, ◌-◌, ◌<◌, ◌≤◌, ◌↔◌, inl, inr, min, refl, sym, ap, subst, ◌∙◌, arith, ℤ, pos, ◌+ℤ◌}
 use Rattle.std.proofs.lemmas.Bool.{cases_lt}
 use Rattle.std.proofs.lemmas.Int.{by_lt_z}
 use Rattle.std.proofs.lemmas.Grind.{common_steps}
 use Rattle.civil.specs.Calendar.{days_in_month, days_in_year, days_of_months, day_of}
 use Rattle.civil.specs.CivilDates.{HoldsDay, IsDate, IsDay, IsDateOf}
+use Rattle.civil.specs.DateLaws.{IsMonthDay, MonthDaysAreDays}
 use Rattle.civil.specs.Months.{months_on, moved_year, moved_month}
 use Rattle.jiff_core.proofs.SignedLemmas.{signed_arith}
-use Rattle.civil.proofs.CalendarLemmas.{day_of-is, months_within, starts_in_order, year_start-next, in_calendar}
+use Rattle.civil.proofs.CalendarLemmas.{day_of-is, day_in_year, starts_in_order, year_start-next, in_calendar}
 use Rattle.civil.proofs.DateOfDay.{year_in_calendar}
 use Rattle.civil.proofs.DateOrder.{date_once, month_before}
-
--- no month ends after its year
-month_within : (y : ℤ) (m d : ℕ) → 1 ≤ m → m ≤ 12 → d ≤ days_in_month y m → days_of_months y (m - 1) + d ≤ days_in_year y
-month_within y zero d h k l = absurd (omega arith)
-month_within y (suc n) d h k l =
-    let back : suc n - 1 ≡ n = omega arith in
-    omega (arith, months_within y n (omega arith), ap (days_of_months y) back)
 
 -- a day of a month of any year, on a day of the calendar
 pub date_inside : (y : ℤ) (m d : ℕ) → 1 ≤ m → m ≤ 12 → 1 ≤ d → d ≤ days_in_month y m → IsDay (day_of y m d) → IsDate y m d
 date_inside y m d from to begun over is =
     let holds : HoldsDay y (day_of y m d) = record {
       begun = omega (arith, signed_arith, day_of-is y m d);
-      not_over = omega (arith, signed_arith, day_of-is y m d, month_within y m d from to over, year_start-next y);
+      not_over = omega (arith, signed_arith, day_of-is y m d, day_in_year y m d from to over, year_start-next y);
     } in
     let year = year_in_calendar y (day_of y m d) holds is in
     record { first_year = year.0; last_year = year.1; first_month = from; last_month = to; first_day = begun; last_day = over }
@@ -67,17 +61,10 @@ month_has_days y m = grind (arith, common_steps)
 
 -- ---- a day has one date, in any year
 
--- a month of the year, and a day of it
-pub record IsMonthDay (y : ℤ) (m d : ℕ) : Type 0 where
-  pub from : 1 ≤ m
-  pub to : m ≤ 12
-  pub first : 1 ≤ d
-  pub last : d ≤ days_in_month y m
-
 in_year : (y : ℤ) (m d : ℕ) → IsMonthDay y m d → HoldsDay y (day_of y m d)
 in_year y m d is = record {
   begun = omega (arith, signed_arith, day_of-is y m d);
-  not_over = omega (arith, signed_arith, day_of-is y m d, is.first, month_within y m d is.from is.to is.last, year_start-next y);
+  not_over = omega (arith, signed_arith, day_of-is y m d, is.first, day_in_year y m d is.from is.to is.last, year_start-next y);
 }
 
 year_once : (day y z : ℤ) → HoldsDay y day → HoldsDay z day → y ≡ z
@@ -104,3 +91,10 @@ same_date day y m d z n e a p b q =
     let months : m ≡ n = same_month y m d n e a b' (p ∙ sym q') in
     let days : d ≡ e = omega (arith, signed_arith, day_of-is y m d, day_of-is y n e, p, q', a.first, b'.first, ap (λ (x : ℕ). days_of_months y (x - 1)) months) in
     (years, months, days)
+
+pub month_days : MonthDaysAreDays
+month_days = record {
+  in_year = in_year;
+  once = λ y m d z n e a b same. same_date (day_of z n e) y m d z n e a same b refl;
+  inside = λ y m d is inside. date_inside y m d is.from is.to is.first is.last inside;
+}

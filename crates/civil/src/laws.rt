@@ -1,6 +1,7 @@
 ghost use Rattle.std.specs.Prelude.{◌≡◌, ℕ, ℤ, pos, negsuc};
 ghost use Rattle.civil.specs.Calendar.{day_of};
 ghost use Rattle.civil.specs.CivilDates.{IsDateOf};
+ghost use Rattle.civil.specs.DateLaws.{MonthDaysAreDays, YearsHaveTheirDays};
 ghost use Rattle.civil.specs.Dates.{date_text, ymd_text};
 ghost use Rattle.civil.specs.Laws.{CountsYears, DatesAreDays, KindsOfYear, YearsRepeat};
 ghost use Rattle.civil.specs.YearLaws.{ExampleYears};
@@ -49,4 +50,17 @@ pub fn ends() -> (NaiveDate, NaiveDate)
 #[inline]
 pub fn example_years()
     ensures { ExampleYears }
+{}
+
+/// From 1 January of a year to that of a later one, in the calendar or not, there are 365 or 366 days for each year.
+#[inline]
+pub fn years_have_their_days()
+    ensures { YearsHaveTheirDays }
+{}
+
+/// The days of the months of all years have day numbers in their years, each its own, and it is a date of the calendar where the
+/// calendar has its day.
+#[inline]
+pub fn month_days_are_days()
+    ensures { MonthDaysAreDays }
 {}
