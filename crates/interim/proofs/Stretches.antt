@@ -7,7 +7,8 @@ use Rattle.civil.specs.CivilDates.{IsDate, IsDay, IsDateOf}
 use Rattle.civil.specs.Clock.{IsClock, IsWallSecond, clock_second, wall_day}
 use Rattle.jiff_core.proofs.SignedLemmas.{signed_arith}
 use Rattle.civil.proofs.CalendarLemmas.{in_calendar}
-use Rattle.civil.proofs.DateMoves.{IsMonthDay, date_inside}
+use Rattle.civil.specs.DateLaws.{IsMonthDay}
+use Rattle.civil.proofs.DateMoves.{date_inside}
 use Rattle.civil.proofs.WallParts.{wall_parts}
 use Rattle.interim.specs.Refusal.{Ends, is_within, within, civil_days, civil_seconds}
 use Rattle.interim.specs.DatesAndTimes.{is_date, is_clock, date_at, time_at, IsDateOn}
@@ -23,9 +24,9 @@ pub test_cases : (b : Bool) → (b ≡ true) ⊎ (b ≡ false)
 test_cases true = inl refl
 test_cases false = inr refl
 
-both_hold : (a b : Bool) → (a && b) ≡ true → (a ≡ true) × (b ≡ true)
-both_hold true b e = (refl, e)
-both_hold false b e = (e, cc)
+both_true : (a b : Bool) → (a && b) ≡ true → (a ≡ true) × (b ≡ true)
+both_true true b e = (refl, e)
+both_true false b e = (e, cc)
 
 int_le-of : (a b : ℤ) → a ≤ℤ b → int_le a b ≡ true
 int_le-of a b h = test_holds (int_le a b) h.le
@@ -40,7 +41,7 @@ is_within-of ends n low high = rw (int_le-of ends.first n low, int_le-of n ends.
 
 pub is_within-tells : (ends : Ends) (n : ℤ) → is_within ends n ≡ true → (ends.first ≤ℤ n) × (n ≤ℤ ends.last)
 is_within-tells ends n e =
-    let parts = both_hold (int_le ends.first n) (int_le n ends.last) e in
+    let parts = both_true (int_le ends.first n) (int_le n ends.last) e in
     (int_le-tells ends.first n parts.0, int_le-tells n ends.last parts.1)
 
 pub is_within-not : (ends : Ends) (n : ℤ) → (ends.first ≤ℤ n → n ≤ℤ ends.last → ⊥) → is_within ends n ≡ false
@@ -78,9 +79,9 @@ is_date-of y m d a b c e = rw (le-leb 1 m a, le-leb m 12 b, le-leb 1 d c, le-leb
 
 pub is_date-tells : (y : ℤ) (m d : ℕ) → is_date y m d ≡ true → IsMonthDay y m d
 is_date-tells y m d e =
-    let front = both_hold _ (leb d (days_in_month y m)) e in
-    let middle = both_hold _ (leb 1 d) front.0 in
-    let start = both_hold (leb 1 m) (leb m 12) middle.0 in
+    let front = both_true _ (leb d (days_in_month y m)) e in
+    let middle = both_true _ (leb 1 d) front.0 in
+    let start = both_true (leb 1 m) (leb m 12) middle.0 in
     record { from = leb-true 1 m start.0; to = leb-true m 12 start.1; first = leb-true 1 d middle.1; last = leb-true d (days_in_month y m) front.1 }
 
 pub found_date : (y z : ℤ) (m d : ℕ) (n : ℤ) → z ≡ y → IsDate z m d → n ≡ day_of z m d → date_at civil_days y m d ≡ Some n
@@ -121,8 +122,8 @@ unfolding time_at
 no_time h m s never =
     elim (test_cases (ltb h 24 && is_clock m s)) [
       | inl holds ↦
-          let front = both_hold (ltb h 24) (is_clock m s) holds in
-          let back = both_hold (ltb m 60) (ltb s 60) front.1 in
+          let front = both_true (ltb h 24) (is_clock m s) holds in
+          let back = both_true (ltb m 60) (ltb s 60) front.1 in
           absurd (never (record { in_day = ltb-true h 24 front.0; in_hour = ltb-true m 60 back.0; in_minute = ltb-true s 60 back.1 }))
       | inr fails ↦ rw fails refl
     ]
