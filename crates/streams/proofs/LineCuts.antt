@@ -4,7 +4,8 @@ use Rattle.std.proofs.lemmas.Bool.Decides.{nat_tests}
 use Rattle.std.proofs.lemmas.List.{take_min, length-take, get_or-take}
 use Rattle.std.proofs.Math.Seq.{take-append-add}
 use Rattle.memchr.specs.Find.{IsFirstByte, is_byte}
-use Rattle.streams.specs.Lines.{lines_after, last_line, ended_after}
+use Rattle.streams.specs.LineLaws.{LinesEndAtLfs}
+use Rattle.streams.specs.Lines.{lines_after, last_line, ended, ended_after}
 use Rattle.streams.specs.Inside.Serving.{begun_after}
 
 -- no LF is among these bytes
@@ -93,3 +94,13 @@ take_room n k old bytes fits e =
     let split : n ≡ length old + (n - length old) = omega arith in
     let front : take k bytes ≡ take (n - length old) bytes = rw e (take_min (n - length old) bytes) in
     ap (λ l. old ++ l) front ∙ sym (ap (λ (m : ℕ). take m (old ++ bytes)) split ∙ take-append-add old bytes (n - length old))
+
+-- so it ends the first line
+first_ended : (bytes : List ℕ) (i : ℕ) → IsFirstByte (is_byte 10) bytes (Some i) → ended bytes ≡ take i bytes ∷ ended (drop (i + 1) bytes)
+first_ended bytes i is =
+    let (cut, none) = first_cut bytes i is in
+    ap ended cut ∙ ended_after-append [] (take i bytes) (10 ∷ drop (i + 1) bytes)
+    ∙ rw (ended_after-none (take i bytes) [] none, begun_after-none (take i bytes) [] none) refl
+
+pub lines_end_at_lfs : LinesEndAtLfs
+lines_end_at_lfs = record { first = first_ended; none = λ bytes is. ended_after-none bytes [] (none_cut bytes is) }

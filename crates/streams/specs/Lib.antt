@@ -1,6 +1,7 @@
 pub mod Causes
 pub mod Feed
 pub mod Whole
+pub mod LineLaws
 pub mod Lines
 pub mod Report
 pub mod Codes
