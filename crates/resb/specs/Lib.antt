@@ -3,6 +3,7 @@ pub mod DraftParents
 pub mod DraftRows
 pub mod Drafts
 pub mod Inside
+pub mod KeyLaws
 pub mod KeyPlan
 pub mod LaidTrees
 pub mod Laws
