@@ -1,10 +1,8 @@
 -- Dates and clock times, with where they lead from 2018-03-21 11:00, a Wednesday.
-use Rattle.std.proofs.Common.{◌≡◌, ℕ, Option, Some, None, ℤ, pos, ◌+ℤ◌, ◌-ℤ◌, refl, sym, ap, arith}
+use Rattle.std.proofs.Common.{◌≡◌, ℕ, Option, Some, None, ℤ, pos, ◌+ℤ◌, ◌-ℤ◌, refl, sym, ap}
 use Rattle.std.specs.Prelude.{option_and_then}
 use Rattle.std.specs.Ordering.{int_cmp}
 use Rattle.civil.specs.Calendar.{weekday_of}
-use Rattle.jiff_core.proofs.SignedLemmas.{signed_arith}
-use Rattle.civil.proofs.YearKinds.{weekday_of-is}
 use Rattle.interim.specs.declared.types.DateSpec.TheVariants.{Relative, FromName}
 use Rattle.interim.specs.declared.types.ByName.TheVariants as by_name
 use Rattle.interim.specs.declared.types.Dialect.{Dialect}
@@ -28,7 +26,7 @@ abbrev weekday : Dialect → ℕ → Direction → Option TimeSpec → Option �
 weekday dialect n direction time = week_day civil_days base dialect n direction time
 
 wednesday : weekday_of (pos 17611) ≡ pos 2
-wednesday = weekday_of-is (pos 17611) (pos 2516) (pos 2) refl (omega (arith, signed_arith)) (omega (arith, signed_arith))
+wednesday = refl
 
 -- a weekday from a base on a day w of its week
 abbrev in_week : ℤ → Dialect → ℕ → Direction → Option TimeSpec → Option ℤ

@@ -2,11 +2,11 @@
 use Rattle.std.proofs.Common.{◌≡◌, inl, inr, ℕ, ◌/◌, ◌%◌, ◌<◌, length, Option, Some, None, Ok, Result, true, false, ℤ, pos, ◌+ℤ◌, ◌≤ℤ◌, refl, sym, ap, subst, ◌∙◌, ◌*ℤ◌, arith}
 use Rattle.std.specs.Prelude.{option_and_then, MatchResult}
 use Rattle.civil.specs.Calendar.{day_of}
-use Rattle.civil.specs.CivilDates.{IsDate, IsDay}
+use Rattle.civil.specs.CivilDates.{HoldsDay, IsDate, IsDay}
 use Rattle.civil.specs.Clock.{IsWallSecond, clock_second}
 use Rattle.jiff_core.proofs.SignedLemmas.{signed_arith}
-use Rattle.civil.proofs.CalendarLemmas.{day_of-is, day_within, days_in_year_bound, in_calendar, leap_days_bound, starts_in_order, year_start-closed}
-use Rattle.civil.proofs.WallParts.{wall_day-in, wall_once}
+use Rattle.civil.specs.DateLaws.{MonthDaysAreDays, YearsHaveTheirDays}
+use Rattle.civil.specs.Laws.{CountsYears, DatesAreDays}
 use Rattle.zoned.specs.Placing.{IsPlaced}
 use Rattle.interim.specs.declared.errors.DateError.{DateError}
 use Rattle.interim.specs.declared.types.AbsDate.{AbsDate}
@@ -28,15 +28,25 @@ use Rattle.interim.proofs.PlainReading.{form_read, time_plain}
 use Rattle.interim.proofs.SoundParts.{parts_sound}
 use Rattle.interim.proofs.Stretches.{found_date, found_day, found_time, is_within-of}
 
+-- what `civil` keeps of its dates
+pub record CivilLaws : Type 0 where
+  pub counts : CountsYears
+  pub dates : DatesAreDays
+  pub months : MonthDaysAreDays
+  pub years : YearsHaveTheirDays
+
+-- a date lies in its year
+pub date_in_year : MonthDaysAreDays → (y : ℤ) (m d : ℕ) → IsDate y m d → HoldsDay y (day_of y m d)
+date_in_year law y m d is = law.in_year y m d (record { from = is.first_month; to = is.last_month; first = is.first_day; last = is.last_day })
+
 -- some days after a date of a year of four digits the calendar has not ended
-pub few_days_on : (y : ℤ) (m d n : ℕ) → IsDate y m d → y ≤ℤ pos 9999 → n < 1000 → IsDay (day_of y m d +ℤ pos n)
-few_days_on y m d n is last few =
-    let inside = in_calendar y m d is in
-    let order = starts_in_order y (pos 9999) last in
-    let closed = year_start-closed (pos 9999) (pos 9998) refl in
+pub few_days_on : CivilLaws → (y : ℤ) (m d n : ℕ) → IsDate y m d → y ≤ℤ pos 9999 → n < 1000 → IsDay (day_of y m d +ℤ pos n)
+few_days_on laws y m d n is last few =
+    let inside = laws.dates.inside y m d is in
+    let over = (date_in_year laws.months y m d is).not_over in
     record {
       first = omega (arith, signed_arith, inside.first);
-      last = omega (arith, signed_arith, order, closed, leap_days_bound (pos 9998), day_of-is y m d, day_within y m d is, days_in_year_bound y, is.first_day, few);
+      last = omega (arith, signed_arith, over, laws.counts.epoch, laws.years.least (y +ℤ pos 1) (pos 10000) (omega (arith, signed_arith)), laws.years.most (pos 1970) (pos 10000) (omega (arith, signed_arith)));
     }
 
 -- the time of the day that a clock time without a fraction tells
@@ -46,14 +56,14 @@ plain_clock time a b e =
     rw (at, e) refl
 
 -- a date and a clock time lead to their wall second
-plain_aim : (date : AbsDate) (time : TimeSpec) (w : ℤ) → IsWall date time w → date.year ≤ℤ pos 9999 → time.hour < 10012 → time.offset ≡ None → time.microsec ≡ 0
+plain_aim : CivilLaws → (date : AbsDate) (time : TimeSpec) (w : ℤ) → IsWall date time w → date.year ≤ℤ pos 9999 → time.hour < 10012 → time.offset ≡ None → time.microsec ≡ 0
     → option_and_then (clock_or civil_days midnight (Some time)) (date_at civil_days date.year date.month date.day) ≡ Some (AtWall w 0)
-plain_aim date time w wall year hour offset micros =
+plain_aim laws date time w wall year hour offset micros =
     let day = day_of date.year date.month date.day in
     let later = day +ℤ pos (time.hour / 24) in
     let clock = clock_second (time.hour % 24) time.min time.sec in
-    let found = found_date date.year date.year date.month date.day day refl wall.date_exists refl in
-    let inside = found_day later later (few_days_on date.year date.month date.day (time.hour / 24) wall.date_exists year (omega (arith, hour))) refl in
+    let found = found_date date.year date.year date.month date.day day refl wall.date_exists (laws.dates.inside date.year date.month date.day wall.date_exists) refl in
+    let inside = found_day later later (few_days_on laws date.year date.month date.day (time.hour / 24) wall.date_exists year (omega (arith, hour))) refl in
     let leads = clock_on-is civil_days time day later (clock, 0) (plain_clock time wall.minute_exists wall.second_exists micros) inside in
     let same : pos 86400 *ℤ later +ℤ pos clock ≡ w = omega (arith, signed_arith, wall.wall_is) in
     rw found (leads ∙ (ap (λ (o : Option ℤ). Some (aim o later (clock, 0))) offset ∙ ap (λ (x : ℤ). Some (AtWall x 0)) same))
@@ -71,15 +81,12 @@ plain_from_wall off base dialect date time w r leads inside p =
           let P : Option Aim → Type 0 = λ (found : Option Aim). Lands (λ w f s. IsPlaced off w s) civil_seconds found r in
           subst P (a.1 ∙ leads) a.2
       | inr q ↦
-          let shown = base.0 +ℤ off base.0 in
-          let day = wall_once shown p.0.day p.0.time.0 (sym p.1.shown) p.1.in_day in
-          let is : IsDay p.0.day = subst IsDay day.0 (wall_day-in shown inside) in
-          let never : true ≡ false = sym (is_within-of civil_days p.0.day is.first is.last) ∙ q.0 in
+          let never : true ≡ false = sym (is_within-of civil_days p.0.day (omega (arith, signed_arith, p.1.shown, p.1.in_day, inside.first)) (omega (arith, signed_arith, p.1.shown, p.1.in_day, inside.last))) ∙ q.0 in
           cc
     ]
 
-pub plain_means : PlainFormsMean
-plain_means = record {
+pub plain_means : CivilLaws → PlainFormsMean
+plain_means laws = record {
   placed = λ off dialect phrase w base parts r form read inside means.
       let date = form.0 in
       let time = form.1 in
@@ -91,7 +98,7 @@ plain_means = record {
       let same : parts ≡ whole = cc in
       let Small : Result DateTimeSpec DateError → Type 0 = λ x. MatchResult x AreSmallParts (IsFaultIn (length phrase)) in
       let small = subst Small is (parts_sound dialect phrase) in
-      let leads = plain_aim date time w wall small.date.last_year small.time.hour plain.0 plain.1 in
+      let leads = plain_aim laws date time w wall small.date.last_year small.time.hour plain.0 plain.1 in
       let M : DateTimeSpec → Type 0 = λ x. MeansIn off civil_days civil_seconds base dialect x.date x.time r in
       plain_from_wall off base dialect date time w r leads inside (subst M same means);
 }

@@ -1,52 +1,28 @@
 -- What the tests of dates, times of a day and stretches tell, and the calendar of `civil` as a stretch.
-use Rattle.std.proofs.Common.{◌≡◌, ◌⊎◌, inl, inr, ℕ, ◌≤◌, Bool, true, false, ◌&&◌, Some, None, ℤ, ◌≤ℤ◌, leb, ltb, refl, sym, ap, subst, ◌∙◌, arith, int_le}
-use lib.Dec.{T}
-use Rattle.std.proofs.lemmas.Bool.{le-leb, lt-ltb, leb-true, ltb-true}
+use Rattle.std.proofs.Common.{◌≡◌, inl, inr, ℕ, ◌≤◌, true, false, ◌&&◌, Some, None, ℤ, ◌≤ℤ◌, leb, ltb, refl, sym, ap, subst, ◌∙◌, arith, int_le}
+use Rattle.std.proofs.lemmas.Bool.{and_parts, cases_Bool, le-leb, lt-ltb, leb-true, ltb-true}
 use Rattle.civil.specs.Calendar.{days_in_month, day_of}
 use Rattle.civil.specs.CivilDates.{IsDate, IsDay, IsDateOf}
+use Rattle.civil.specs.DateLaws.{IsMonthDay, MonthDaysAreDays}
 use Rattle.civil.specs.Clock.{IsClock, IsWallSecond, clock_second, wall_day}
 use Rattle.jiff_core.proofs.SignedLemmas.{signed_arith}
-use Rattle.civil.proofs.CalendarLemmas.{in_calendar}
-use Rattle.civil.specs.DateLaws.{IsMonthDay}
-use Rattle.civil.proofs.DateMoves.{date_inside}
-use Rattle.civil.proofs.WallParts.{wall_parts}
 use Rattle.interim.specs.Refusal.{Ends, is_within, within, civil_days, civil_seconds}
 use Rattle.interim.specs.DatesAndTimes.{is_date, is_clock, date_at, time_at, IsDateOn}
 use Rattle.interim.specs.Meaning.{moment_at}
 
--- ---- tests
-
-test_holds : (b : Bool) → T b → b ≡ true
-test_holds true h = refl
-test_holds false h = absurd h
-
-pub test_cases : (b : Bool) → (b ≡ true) ⊎ (b ≡ false)
-test_cases true = inl refl
-test_cases false = inr refl
-
-both_true : (a b : Bool) → (a && b) ≡ true → (a ≡ true) × (b ≡ true)
-both_true true b e = (refl, e)
-both_true false b e = (e, cc)
-
-int_le-of : (a b : ℤ) → a ≤ℤ b → int_le a b ≡ true
-int_le-of a b h = test_holds (int_le a b) h.le
-
-int_le-tells : (a b : ℤ) → int_le a b ≡ true → a ≤ℤ b
-int_le-tells a b e = omega (arith, signed_arith)
-
 -- ---- stretches
 
 pub is_within-of : (ends : Ends) (n : ℤ) → ends.first ≤ℤ n → n ≤ℤ ends.last → is_within ends n ≡ true
-is_within-of ends n low high = rw (int_le-of ends.first n low, int_le-of n ends.last high) refl
+is_within-of ends n low high = grind (arith, signed_arith)
 
 pub is_within-tells : (ends : Ends) (n : ℤ) → is_within ends n ≡ true → (ends.first ≤ℤ n) × (n ≤ℤ ends.last)
 is_within-tells ends n e =
-    let parts = both_true (int_le ends.first n) (int_le n ends.last) e in
-    (int_le-tells ends.first n parts.0, int_le-tells n ends.last parts.1)
+    let parts = and_parts (int_le ends.first n) (int_le n ends.last) e in
+    (omega (arith, signed_arith), omega (arith, signed_arith))
 
 pub is_within-not : (ends : Ends) (n : ℤ) → (ends.first ≤ℤ n → n ≤ℤ ends.last → ⊥) → is_within ends n ≡ false
 is_within-not ends n never =
-    elim (test_cases (is_within ends n)) [
+    elim (cases_Bool (is_within ends n)) [
       | inl holds ↦ absurd (let parts = is_within-tells ends n holds in never parts.0 parts.1)
       | inr fails ↦ fails
     ]
@@ -68,9 +44,9 @@ no_moment s f never = rw (is_within-not civil_seconds s (λ low high. never (rec
 
 -- a wall second outside the calendar has no day in it
 pub no_wall_day : (w : ℤ) → (IsWallSecond w → ⊥) → is_within civil_days (wall_day w) ≡ false
+unfolding wall_day
 no_wall_day w never =
-    let parts = wall_parts w in
-    is_within-not civil_days (wall_day w) (λ low high. never (record { first = omega (arith, signed_arith, parts.0, parts.1, low); last = omega (arith, signed_arith, parts.0, parts.1, high) }))
+    is_within-not civil_days (wall_day w) (λ low high. never (record { first = omega (arith, signed_arith, low); last = omega (arith, signed_arith, high) }))
 
 -- ---- dates
 
@@ -79,26 +55,25 @@ is_date-of y m d a b c e = rw (le-leb 1 m a, le-leb m 12 b, le-leb 1 d c, le-leb
 
 pub is_date-tells : (y : ℤ) (m d : ℕ) → is_date y m d ≡ true → IsMonthDay y m d
 is_date-tells y m d e =
-    let front = both_true _ (leb d (days_in_month y m)) e in
-    let middle = both_true _ (leb 1 d) front.0 in
-    let start = both_true (leb 1 m) (leb m 12) middle.0 in
+    let front = and_parts _ (leb d (days_in_month y m)) e in
+    let middle = and_parts _ (leb 1 d) front.0 in
+    let start = and_parts (leb 1 m) (leb m 12) middle.0 in
     record { from = leb-true 1 m start.0; to = leb-true m 12 start.1; first = leb-true 1 d middle.1; last = leb-true d (days_in_month y m) front.1 }
 
-pub found_date : (y z : ℤ) (m d : ℕ) (n : ℤ) → z ≡ y → IsDate z m d → n ≡ day_of z m d → date_at civil_days y m d ≡ Some n
+pub found_date : (y z : ℤ) (m d : ℕ) (n : ℤ) → z ≡ y → IsDate z m d → IsDay n → n ≡ day_of z m d → date_at civil_days y m d ≡ Some n
 unfolding date_at
-found_date y z m d n e is v =
+found_date y z m d n e is inside v =
     let at : IsDate y m d = subst (λ (x : ℤ). IsDate x m d) e is in
     let same : n ≡ day_of y m d = v ∙ ap (λ (x : ℤ). day_of x m d) e in
-    let test = is_date-of y m d at.first_month at.last_month at.first_day at.last_day in
-    rw test (found_day (day_of y m d) n (in_calendar y m d at) same)
+    rw (is_date-of y m d at.first_month at.last_month at.first_day at.last_day, ← same) (found_day n n inside refl)
 
-pub no_date : (y z : ℤ) (m d : ℕ) → z ≡ y → (IsDate z m d → ⊥) → date_at civil_days y m d ≡ None
+pub no_date : MonthDaysAreDays → (y z : ℤ) (m d : ℕ) → z ≡ y → (IsDate z m d → ⊥) → date_at civil_days y m d ≡ None
 unfolding date_at
-no_date y z m d e never =
-    elim (test_cases (is_date y m d)) [
+no_date law y z m d e never =
+    elim (cases_Bool (is_date y m d)) [
       | inl holds ↦
-          let is = is_date-tells y m d holds in
-          rw holds (no_day (day_of y m d) (λ inside. never (subst (λ (x : ℤ). IsDate x m d) (sym e) (date_inside y m d is.from is.to is.first is.last inside))))
+          let date = law.inside y m d (is_date-tells y m d holds) in
+          rw holds (no_day (day_of y m d) (λ day. never (subst (λ (x : ℤ). IsDate x m d) (sym e) (date day))))
       | inr fails ↦ rw fails refl
     ]
 
@@ -120,10 +95,10 @@ found_time h m s second nanos is e f = rw (e, f) (found_parts h m s is)
 pub no_time : (h m s : ℕ) → (IsClock h m s → ⊥) → time_at h m s ≡ None
 unfolding time_at
 no_time h m s never =
-    elim (test_cases (ltb h 24 && is_clock m s)) [
+    elim (cases_Bool (ltb h 24 && is_clock m s)) [
       | inl holds ↦
-          let front = both_true (ltb h 24) (is_clock m s) holds in
-          let back = both_true (ltb m 60) (ltb s 60) front.1 in
+          let front = and_parts (ltb h 24) (is_clock m s) holds in
+          let back = and_parts (ltb m 60) (ltb s 60) front.1 in
           absurd (never (record { in_day = ltb-true h 24 front.0; in_hour = ltb-true m 60 back.0; in_minute = ltb-true s 60 back.1 }))
       | inr fails ↦ rw fails refl
     ]

@@ -10,6 +10,7 @@ pub mod Grammar
 pub mod Inside
 pub mod Intervals
 pub mod Jiff
+pub mod JiffDays
 pub mod JiffTables
 pub mod Meaning
 pub mod MeaningLaws

@@ -6,6 +6,7 @@ ghost use Rattle.interim.specs.Inside.JiffBounds.{LiesIn};
 ghost use Rattle.interim.specs.Jiff.{jiff_days, jiff_seconds, instant};
 
 use crate::datetime::{Date, DateTime, Refused, Time};
+use crate::laws::jiff_days_are_days;
 use jiff::tz::TimeZone;
 use jiff::{Timestamp, Zoned, civil};
 
@@ -88,6 +89,7 @@ impl Date for civil::Date {
     ghost memory = { false };
 
     fn from_ymd(year: i32, month: u32, day: u32) -> Result<civil::Date, Refused> {
+        jiff_days_are_days();
         if !is_date(year, month, day) {
             return Err(Refused::OutOfRange);
         }
@@ -95,6 +97,7 @@ impl Date for civil::Date {
     }
 
     fn offset_months(self, months: i32) -> Result<civil::Date, Refused> {
+        jiff_days_are_days();
         let date = self.to_plain();
         let (year, month) = month_after(date.year, date.month, months);
         if year < -9999 || year > 9999 {
@@ -116,6 +119,7 @@ impl Date for civil::Date {
     }
 
     fn year(&self) -> i32 {
+        jiff_days_are_days();
         civil::Date::year(*self) as i32
     }
 

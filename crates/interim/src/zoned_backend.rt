@@ -4,6 +4,7 @@ ghost use Rattle.civil.specs.CivilDates.{IsDay, IsDateOf};
 ghost use Rattle.civil.specs.Months.{months_on};
 
 use crate::datetime::{Date, DateTime, Refused, Time};
+use civil::laws::{dates_are_days, month_days_are_days};
 use civil::{Datelike, NaiveDate, NaiveDateTime, NaiveTime};
 use zoned::{Civil, Offset, TimeZone};
 
@@ -33,6 +34,7 @@ impl Date for NaiveDate {
     ghost memory = { false };
 
     fn from_ymd(year: i32, month: u32, day: u32) -> Result<NaiveDate, Refused> {
+        month_days_are_days();
         match NaiveDate::from_ymd_opt(year, month, day) {
             Some(date) => Ok(date),
             None => Err(Refused::OutOfRange),
@@ -40,6 +42,7 @@ impl Date for NaiveDate {
     }
 
     fn offset_months(self, months: i32) -> Result<NaiveDate, Refused> {
+        dates_are_days();
         let _day = self.day_number();
         match months_later(self, months) {
             Some(date) => Ok(date),

@@ -8,14 +8,18 @@ use Rattle.interim.proofs.jiff_backend.month_after.Goals as goal
 back : (year : ℤ) → negsuc 400000000 ≤ℤ year → year ≤ℤ pos 400000000 → to_z w32 (of_z w32 (to_z w64 (of_z w64 year))) ≡ year
 back year low high = omega (arith, signed_casts)
 
--- and so does a month
+-- and fits in 32 bits
+narrow : (year : ℤ) → negsuc 400000000 ≤ℤ year → year ≤ℤ pos 400000000 → FitsSigned w32 (to_z w64 (of_z w64 year))
+narrow year low high = omega (arith, signed_casts)
+
+-- and a month does too
 month_back : (r n : ℤ) → r ≡ int_rem_euclid n (pos 12) → unsigned_abs (to_z w64 (of_z w64 r)) + 1 ≡ unsigned_abs (int_rem_euclid n (pos 12)) + 1
 month_back r n e =
     let fits : FitsSigned w64 r = omega (arith, signed_arith, e, int_rem_euclid-parts n 12) in
     ap (λ (x : ℤ). unsigned_abs x + 1) (to_z-of_z fits ∙ e)
 
 pub overflow_cast-result : goal.overflow_cast-result
-overflow_cast-result c = omega (arith, signed_casts)
+overflow_cast-result c = narrow c.div_euclid.result (omega (arith, signed_casts)) (omega (arith, signed_casts))
 
 pub returns-clause-year : goal.returns-clause-year
 unfolding moved_year

@@ -32,8 +32,8 @@ returns-then-year-ltminus9999 c =
       date.year,
       date.month,
       date.day,
-      date_of date date.year refl,
-      moved_out date after.0 c.args.months after.1 year month moved.in_year.0 moved.in_year.1 (λ is.
+      date_of c.jiff_days_are_days.ensures date date.year refl,
+      moved_out c.jiff_days_are_days.ensures date after.0 c.args.months after.1 year month moved.in_year.0 moved.in_year.1 (λ is.
           elim c.then-year-ltminus9999.branch [
             | then-year-ltminus9999-via-then-year-ltminus9999 w ↦ omega (arith, signed_casts, is.0, is.1, w.if-year-ltminus9999)
             | then-year-ltminus9999-via-else-year-ltminus9999+then-year-gt9999 w ↦ omega (arith, signed_casts, is.0, is.1, w.if-year-gt9999)
@@ -51,11 +51,11 @@ returns c =
     let year : after.0 ≡ moved_year date.year date.month c.args.months = moved.year ∙ ap (λ (x : ℤ). moved_year x date.month (to_z w32 (of_z w32 c.args.months))) (year_back date) ∙ ap (λ (n : ℤ). moved_year date.year date.month n) months in
     let month : after.1 ≡ moved_month date.year date.month c.args.months = moved.month ∙ ap (λ (x : ℤ). moved_month x date.month (to_z w32 (of_z w32 c.args.months))) (year_back date) ∙ ap (λ (n : ℤ). moved_month date.year date.month n) months in
     let back : to_z w16 (of_z w16 (to_z w32 (of_z w32 after.0))) ≡ after.0 = omega (arith, signed_casts, moved.bound.0, moved.bound.1, c.if-year-ltminus9999.false, c.if-year-gt9999.false) in
-    let found : within jiff_days (months_on date.year date.month date.day c.args.months) ≡ Some (epoch_day c.constrain-cut.result) = moved_in date c.constrain-cut.result after.0 c.args.months after.1 year month (cut.year ∙ back) cut.month (cut.day ∙ ap (λ (y : ℤ). min date.day (days_in_month y after.1)) back) in
+    let found : within jiff_days (months_on date.year date.month date.day c.args.months) ≡ Some (epoch_day c.constrain-cut.result) = moved_in c.jiff_days_are_days.ensures date c.constrain-cut.result after.0 c.args.months after.1 year month (cut.year ∙ back) cut.month (cut.day ∙ ap (λ (y : ℤ). min date.day (days_in_month y after.1)) back) in
     subst (IsMoved c.args.months (Some (epoch_day c.from_plain.result))) c.to_plain-date.ensures (
       date.year,
       date.month,
       date.day,
-      date_of date date.year refl,
+      date_of c.jiff_days_are_days.ensures date date.year refl,
       found ∙ ap (λ (x : Date). Some (epoch_day x)) (sym c.from_plain.ensures),
     )

@@ -7,4 +7,4 @@ use Rattle.interim.proofs.jiff_backend.CivilDateDate.year.Goals as goal
 pub returns-clause-year : goal.returns-clause-year
 returns-clause-year c =
     let date = c.args.self.now in
-    (date.month, date.day, date_of date (to_z w32 (of_z w32 (to_z w16 (of_z w16 c.year.result)))) (omega (arith, signed_casts, c.year.ensures, date.year_in)))
+    (date.month, date.day, date_of c.jiff_days_are_days.ensures date (to_z w32 (of_z w32 (to_z w16 (of_z w16 c.year.result)))) (omega (arith, signed_casts, c.year.ensures, date.year_in)))
