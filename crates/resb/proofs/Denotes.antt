@@ -1,5 +1,5 @@
 -- The words that are written for a tree denote it.
-use Rattle.std.proofs.Common.{◌≡◌, ℕ, ◌+◌, ◌*◌, ◌≤◌, true, false, leb, List, [], ◌∷◌, ◌++◌, length, length-append, Some, refl, ap, ◌∙◌, subst, arith}
+use Rattle.std.proofs.Common.{◌≡◌, ℕ, ◌+◌, ◌*◌, ◌≤◌, true, false, leb, List, [], ◌∷◌, ◌++◌, length, length-append, Some, refl, ap, sym, ◌∙◌, append_assoc, subst, arith}
 use Rattle.std.specs.Prelude.{slice_index}
 use Rattle.std.proofs.lemmas.Bool.{le-leb}
 use Rattle.std.proofs.lemmas.List.{get_or_at}
@@ -22,15 +22,11 @@ use Rattle.resb.proofs.Trees.{Sound, laid_reads}
 use Rattle.resb.proofs.GoodKeys.{keys_good}
 use Rattle.resb.proofs.WrittenWords.{Kept, kept}
 
-regroup : (front : List ℕ) (x : ℕ) (xs : List ℕ) → front ++ x ∷ xs ≡ (front ++ x ∷ []) ++ xs
-regroup [] x xs = refl
-regroup (y ∷ front) x xs = ap (λ ys. y ∷ ys) (regroup front x xs)
-
 -- a list stands behind its front
 stand_behind : (words front xs : List ℕ) → words ≡ front ++ xs → StandIn words (length front) xs
 stand_behind words front [] e = tt
 stand_behind words front (x ∷ xs) e =
-    let all : words ≡ (front ++ x ∷ []) ++ xs = e ∙ regroup front x xs in
+    let all : words ≡ (front ++ x ∷ []) ++ xs = e ∙ sym (append_assoc front (x ∷ []) xs) in
     let len : length (front ++ x ∷ []) ≡ length front + 1 = length-append front (x ∷ []) in
     (ap (λ ws. slice_index ws (length front)) e ∙ get_or_at front x xs 0 (length front) refl, subst (λ n. StandIn words n xs) len (stand_behind words (front ++ x ∷ []) xs all))
 

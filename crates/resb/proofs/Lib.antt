@@ -14,11 +14,10 @@ pub mod Told
 pub mod PlacedKeys
 pub mod WrittenWords
 pub mod PackedWords
-pub mod Layers
+pub mod TreeKinds
 pub mod PoolReads
 pub mod ReadBack
 pub mod Trees
 pub mod GoodKeys
 pub mod Denotes
-pub mod OneZone
 pub mod TypeSizes

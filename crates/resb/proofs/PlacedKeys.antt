@@ -1,19 +1,19 @@
 -- The keys of a table, gone through one after the other.
-use Rattle.std.proofs.Common.{◌≡◌, ℕ, ◌+◌, ◌<◌, Bool, true, false, cond, List, [], ◌∷◌, ◌++◌, length, drop, get_or, Option, Some, None, refl, ap, ◌∙◌, Bor, append_assoc}
+use Rattle.std.proofs.Common.{◌≡◌, ℕ, ◌+◌, ◌<◌, Bool, true, false, cond, List, [], ◌∷◌, ◌++◌, length, drop, get_or, Option, Some, None, inl, inr, refl, ◌∙◌, Bor, append_assoc, arith}
 use Rattle.std.specs.Prelude.{map}
 use Rattle.std.specs.Str.{bytes_eq}
-use Rattle.std.proofs.lemmas.Bool.{and_parts, and_from}
+use Rattle.std.proofs.lemmas.Bool.{and_parts, and_from, false≢true}
+use Rattle.std.proofs.lemmas.List.{at_drop_more}
 use Rattle.std.proofs.lemmas.Slice.Eq.{bytes_eq-Decides}
 use Rattle.resb_tree.specs.Keys.{stands_in}
 use Rattle.resb_tree.specs.Weight.{sum_of}
 use Rattle.resb.specs.Pool.{all_in, bare, place_of, place_told}
 use Rattle.resb.specs.BadKeys.{is_key, all_keys}
 use Rattle.resb.specs.WrittenFiles.{most_of}
-use Rattle.resb.proofs.Pools.{unplaced_cases}
-use Rattle.resb.proofs.PoolSearch.{cons_at}
+use Rattle.resb.proofs.Pools.{if_cases, unplaced_key}
 
 pub behind_is : (keys : List (Bor (List ℕ))) (d : Bor (List ℕ)) (i : ℕ) → i < length keys → bare (drop i keys) ≡ (get_or keys i d).now ∷ bare (drop (i + 1) keys)
-behind_is keys d i lt = ap (λ (xs : List (Bor (List ℕ))). bare xs) (cons_at keys d i lt)
+behind_is keys d i lt = at_drop_more bare keys i d lt
 
 pub units_past : (places : List ℕ → ℕ) (keys : List (Bor (List ℕ))) (d : Bor (List ℕ)) (i : ℕ) → i < length keys → (units new all : List ℕ) (place : ℕ) → place ≡ places (get_or keys i d).now → new ≡ units ++ place ∷ []
     → units ++ map places (bare (drop i keys)) ≡ all → new ++ map places (bare (drop (i + 1) keys)) ≡ all
@@ -24,36 +24,33 @@ units_past places keys d i lt units new all place p n h =
     rw (n, p) (append_assoc units (places k ∷ []) rest ∙ g)
 
 pub sum_past : (keys : List (Bor (List ℕ))) (d : Bor (List ℕ)) (i : ℕ) → i < length keys → sum_of (map length (bare (drop i keys))) ≡ length (get_or keys i d).now + sum_of (map length (bare (drop (i + 1) keys)))
-sum_past keys d i lt = ap (λ (ks : List (List ℕ)). sum_of (map length ks)) (behind_is keys d i lt)
+sum_past keys d i lt = at_drop_more (λ ks. sum_of (map length (bare ks))) keys i d lt
 
 pub most_past : (places : List ℕ → ℕ) (keys : List (Bor (List ℕ))) (d : Bor (List ℕ)) (i : ℕ) → i < length keys → most_of (map places (bare (drop i keys))) ≡ most_of (map places ((get_or keys i d).now ∷ bare (drop (i + 1) keys)))
-most_past places keys d i lt = ap (λ (ks : List (List ℕ)). most_of (map places ks)) (behind_is keys d i lt)
+most_past places keys d i lt = at_drop_more (λ ks. most_of (map places (bare ks))) keys i d lt
 
 -- ---- keys of a pool
-
-told_cases : (keys : List (List ℕ)) (q : List ℕ) (place : ℕ) (b : Bool) → stands_in q keys ≡ b → Some place ≡ (let none : Option ℕ = None in cond b (Some (place_of keys q)) none) → stands_in q keys ≡ true
-told_cases keys q place true e h = e
-told_cases keys q place false e h = absurd (let f : Some place ≡ (let none : Option ℕ = None in none) = h in cc)
 
 pub unknown : (keys : List (Bor (List ℕ))) (d : Bor (List ℕ)) (i : ℕ) → i < length keys → (pool : List (List ℕ)) → (let none : Option ℕ = None in none ≡ place_told pool (get_or keys i d).now) → false ≡ all_in (bare (drop i keys)) pool
 unknown keys d i lt pool told =
     let q = (get_or keys i d).now in
-    let out = unplaced_cases pool q (stands_in q pool) refl told in
+    let out = unplaced_key pool q told in
     rw (behind_is keys d i lt, out) refl
 
 pub known : (keys : List (Bor (List ℕ))) (d : Bor (List ℕ)) (i : ℕ) → i < length keys → (pool : List (List ℕ)) (place : ℕ) → Some place ≡ place_told pool (get_or keys i d).now → all_in (bare (drop i keys)) pool ≡ all_in (bare (drop (i + 1) keys)) pool
 known keys d i lt pool place told =
     let q = (get_or keys i d).now in
-    let there = told_cases pool q place (stands_in q pool) refl told in
+    let there : stands_in q pool ≡ true = grind arith in
     rw (behind_is keys d i lt, there) refl
 
-key_step : (k q : List ℕ) (keys : List (List ℕ)) → (stands_in q keys ≡ true → all_keys keys ≡ true → is_key q ≡ true) → (b : Bool) → bytes_eq q k ≡ b → cond b true (stands_in q keys) ≡ true → all_keys (k ∷ keys) ≡ true → is_key q ≡ true
-key_step k q keys more true e s g = let same : q ≡ k = (bytes_eq-Decides q k).0 e in rw same (and_parts _ _ g).0
-key_step k q keys more false e s g = more s (and_parts _ _ g).1
-
 key_of_pool : (keys : List (List ℕ)) (q : List ℕ) → stands_in q keys ≡ true → all_keys keys ≡ true → is_key q ≡ true
-key_of_pool [] q s g = absurd (let t : false ≡ true = s in cc)
-key_of_pool (k ∷ keys) q s g = key_step k q keys (key_of_pool keys q) (bytes_eq q k) refl s g
+key_of_pool [] q s g = absurd (false≢true s)
+key_of_pool (k ∷ keys) q s g =
+    let both = and_parts _ _ g in
+    elim (if_cases (bytes_eq q k) (stands_in q keys) s) [
+      | inl e ↦ rw ((bytes_eq-Decides q k).0 e) both.0
+      | inr r ↦ key_of_pool keys q r both.1
+    ]
 
 -- names that are among good keys are good
 pub names_good : (names pool : List (List ℕ)) → all_in names pool ≡ true → all_keys pool ≡ true → all_keys names ≡ true

@@ -51,51 +51,36 @@ counted_is b v per count e lt le =
 
 -- ---- texts, bytes and integers
 
-text_read : (b : Body) (v : ℕ) (units : List ℕ) → 0 < v → StandIn b.words v (length units ∷ pack_units (units ++ 0 ∷ [])) → v + 1 + length (pack_units (units ++ 0 ∷ [])) ≤ b.end → Below 65536 units → text_at b v ≡ Some (r.Text units)
-unfolding text_at
-text_read b v units pos h le low =
-    let z = not_zero v pos in
-    let len = length-append units (0 ∷ []) in
-    let packed = length-pack_units (units ++ 0 ∷ []) in
-    let count = counted_is b v 2 (length units) h.0 (omega (arith, le)) (omega (arith, le, len, packed)) in
-    let all = units_stand b.words (v + 1) (units ++ 0 ∷ []) h.1 (below_append 65536 units (0 ∷ []) low (lit< tt, tt)) in
-    let e = stand_run (unit_in b.words) (2 * (v + 1)) units (stand_front (unit_in b.words) (2 * (v + 1)) units (0 ∷ []) all) in
-    rw (z, count, e) refl
-
-bytes_read : (b : Body) (v : ℕ) (bytes : List ℕ) → 0 < v → StandIn b.words v (length bytes ∷ pack_bytes bytes) → v + 1 + length (pack_bytes bytes) ≤ b.end → Below 256 bytes → bytes_at b v ≡ Some (r.Bytes bytes)
-unfolding bytes_at
-bytes_read b v bytes pos h le low =
-    let z = not_zero v pos in
-    let packed = length-pack_bytes bytes in
-    let count = counted_is b v 4 (length bytes) h.0 (omega (arith, le)) (omega (arith, le, packed)) in
-    let e = stand_run (byte_in b.words) (4 * (v + 1)) bytes (bytes_stand b.words (v + 1) bytes h.1 low) in
-    rw (z, count, e) refl
-
-integers_read : (b : Body) (v : ℕ) (values : List ℕ) → 0 < v → StandIn b.words v (length values ∷ values) → v + 1 + length values ≤ b.end → integers_at b v ≡ Some (r.Integers values)
-unfolding integers_at
-integers_read b v values pos h le =
-    let z = not_zero v pos in
-    let count = counted_is b v 1 (length values) h.0 (omega (arith, le)) (omega (arith, le)) in
-    let e = stand_run (slice_index b.words) (v + 1) values h.1 in
-    rw (z, count, e) refl
-
 pub text_reads : (b : Body) (levels : ℕ) (places : List ℕ → ℕ) (at : ℕ) (units : List ℕ) → b.end ≤ 268435456 → all_below 65536 units ≡ true → Reads b (suc levels) places at (text_laid units) (r.Text units)
 unfolding by_type text_at
 text_reads b levels places at [] fits low pos h le = at_type b levels 0 0 (lit< tt)
 text_reads b levels places at (u ∷ units) fits low pos h le =
-    at_type b levels 0 at (omega (arith, fits, le)) ∙ text_read b at (u ∷ units) pos h (omega (arith, le)) (below 65536 (u ∷ units) low)
+    let all = u ∷ units in
+    let len = length-append all (0 ∷ []) in
+    let packed = length-pack_units (all ++ 0 ∷ []) in
+    let count = counted_is b at 2 (length all) h.0 (omega (arith, le)) (omega (arith, le, len, packed)) in
+    let stand = units_stand b.words (at + 1) (all ++ 0 ∷ []) h.1 (below_append 65536 all (0 ∷ []) (below 65536 all low) (lit< tt, tt)) in
+    let e = stand_run (unit_in b.words) (2 * (at + 1)) all (stand_front (unit_in b.words) (2 * (at + 1)) all (0 ∷ []) stand) in
+    at_type b levels 0 at (omega (arith, fits, le)) ∙ rw (not_zero at pos, count, e) refl
 
 pub bytes_reads : (b : Body) (levels : ℕ) (places : List ℕ → ℕ) (at : ℕ) (bytes : List ℕ) → b.end ≤ 268435456 → all_below 256 bytes ≡ true → Reads b (suc levels) places at (bytes_laid bytes) (r.Bytes bytes)
 unfolding by_type bytes_at
 bytes_reads b levels places at [] fits low pos h le = at_type b levels 1 0 (lit< tt)
 bytes_reads b levels places at (x ∷ bytes) fits low pos h le =
-    at_type b levels 1 at (omega (arith, fits, le)) ∙ bytes_read b at (x ∷ bytes) pos h (omega (arith, le)) (below 256 (x ∷ bytes) low)
+    let all = x ∷ bytes in
+    let packed = length-pack_bytes all in
+    let count = counted_is b at 4 (length all) h.0 (omega (arith, le)) (omega (arith, le, packed)) in
+    let e = stand_run (byte_in b.words) (4 * (at + 1)) all (bytes_stand b.words (at + 1) all h.1 (below 256 all low)) in
+    at_type b levels 1 at (omega (arith, fits, le)) ∙ rw (not_zero at pos, count, e) refl
 
 pub integers_reads : (b : Body) (levels : ℕ) (places : List ℕ → ℕ) (at : ℕ) (values : List ℕ) → b.end ≤ 268435456 → Reads b (suc levels) places at (integers_laid values) (r.Integers values)
 unfolding by_type integers_at
 integers_reads b levels places at [] fits pos h le = at_type b levels 14 0 (lit< tt)
 integers_reads b levels places at (x ∷ values) fits pos h le =
-    at_type b levels 14 at (omega (arith, fits, le)) ∙ integers_read b at (x ∷ values) pos h (omega (arith, le))
+    let all = x ∷ values in
+    let count = counted_is b at 1 (length all) h.0 (omega (arith, le)) (omega (arith, le)) in
+    let e = stand_run (slice_index b.words) (at + 1) all h.1 in
+    at_type b levels 14 at (omega (arith, fits, le)) ∙ rw (not_zero at pos, count, e) refl
 
 -- ---- arrays
 

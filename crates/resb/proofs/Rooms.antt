@@ -17,11 +17,9 @@ use Rattle.resb.specs.Writing.{depth}
 use Rattle.resb.specs.DraftRows.{Holds, HasRoom}
 use Rattle.resb.specs.Drafts.{Unwritten}
 use Rattle.resb.specs.declared.draft.Draft.{Draft}
-use Rattle.resb.proofs.Folds.{weight-Array, weight-Table, depth-Array, depth-Table}
-use Rattle.resb.proofs.LaidWords.{most_both, fits-first, fits-array, fits-values, refused_still}
-use Rattle.resb.proofs.LaidSteps.{length-lay_all}
+use Rattle.resb.proofs.LaidWords.{fits-first, parts_fit, refused_still}
 use Rattle.resb.proofs.Rows.{fits_both, fits_front, fits_back, weights_both}
-use Rattle.resb.proofs.RowParents.{entries_weigh}
+use Rattle.resb.proofs.TreeKinds.{IsParent, most_both, length-lay_all}
 
 -- ---- room for more
 
@@ -36,29 +34,32 @@ pub room_words : (d : Draft) (keys : List (List ℕ)) (row : List Resource) → 
 room_words d keys row h = omega (arith, h.1.fits.room, ap length h.1.laid_words)
 
 -- a tree fits where it is to be laid
-pub last_fits : (d : Draft) (keys : List (List ℕ)) (row xs : List Resource) (t : Resource) → Holds d keys (row ++ xs) → HasRoom keys (row ++ t ∷ []) → Fits t (place_of keys) (d.base + length (lay_all (map laid row) (place_of keys) d.base).0)
-last_fits d keys row xs t h room =
+pub last_fits : (d : Draft) (keys : List (List ℕ)) (held row : List Resource) (t : Resource) → Holds d keys held → HasRoom keys (row ++ t ∷ []) → Fits t (place_of keys) (d.base + length (lay_all (map laid row) (place_of keys) d.base).0)
+last_fits d keys held row t h room = rw h.1.behind (fits-first t [] (place_of keys) _ (fits_back row (t ∷ []) (place_of keys) _ room.fits))
+
+-- where there is room for a parent, there is room for its parts
+pub parts_room : (keys : List (List ℕ)) (row xs : List Resource) (t : Resource) (names : List (List ℕ)) → IsParent t xs names → HasRoom keys (row ++ t ∷ []) → HasRoom keys (row ++ xs)
+parts_room keys row xs t names p room =
     let back = fits_back row (t ∷ []) (place_of keys) _ room.fits in
-    rw h.1.behind (fits-first t [] (place_of keys) _ back)
+    record {
+      fits = fits_both row xs (place_of keys) _ (fits_front row (t ∷ []) (place_of keys) _ room.fits) (parts_fit t xs names p (place_of keys) _ (fits-first t [] (place_of keys) _ back));
+      shallow = omega (arith, room.shallow, p.deep, most_both depth row (t ∷ []), most_both depth row xs);
+      light = omega (arith, room.light, p.weighs, weights_both row (t ∷ []), weights_both row xs);
+    }
 
--- ---- why a resource of no others is refused
+-- ---- why a tree is refused
 
--- a refusal that is handed on
-pub err_on : {X : Type 0} (x : Result X ResbError) (P : X → Type 0) (Q : ResbError → Type 0) (e : ResbError) → IsErrAnd x (λ y. y ≡ e) → Q e → MatchResult x P Q
-err_on (Ok v) P Q e h f = absurd h
-err_on (Err y) P Q e h f = rw h f
+-- a tree is refused only where a fact fails that holds wherever there is room
+pub refused_heavy : (d : Draft) (keys : List (List ℕ)) (held row : List Resource) (t : Resource) (own : ℕ) (P : Type 0) (e : ResbError) → weight t + weights row ≡ 1 + own + weights held → Holds d keys held
+    → Refuses P e → (d.base + length d.laying.words.items ≤ most_words → 1 + own ≤ d.left → P) → Refuses (HasRoom keys (row ++ t ∷ [])) e
+refused_heavy d keys held row t own P e w h g f = refused_still e P _ (λ (room : HasRoom keys (row ++ t ∷ [])). f (room_words d keys held h) (omega (arith, w, h.1.weight, room.light, weights_both row (t ∷ [])))) g
 
-pub leaf_heavy : (d : Draft) (t : Resource) (parts : ℕ) (e : ResbError) → weight t ≡ 1 + parts → Refuses ((d.base + length d.laying.words.items ≤ most_words) × (1 + parts ≤ d.left)) e → (keys : List (List ℕ)) (row : List Resource) → Holds d keys row → Refuses (HasRoom keys (row ++ t ∷ [])) e
-leaf_heavy d t parts e w f keys row h =
-    refused_still e _ _ (λ (room : HasRoom keys (row ++ t ∷ [])). (room_words d keys row h, omega (arith, w, h.1.weight, room.light, weights_both row (t ∷ [])))) f
+pub refused_long : (d : Draft) (keys : List (List ℕ)) (held row : List Resource) (t : Resource) (P : Type 0) (e : ResbError) → Holds d keys held
+    → Refuses P e → (Fits t (place_of keys) (d.base + length (lay_all (map laid row) (place_of keys) d.base).0) → P) → Refuses (HasRoom keys (row ++ t ∷ [])) e
+refused_long d keys held row t P e h g f = refused_still e P _ (λ (room : HasRoom keys (row ++ t ∷ [])). f (last_fits d keys held row t h room)) g
 
-pub leaf_long : (d : Draft) (t : Resource) (e : ResbError) → ((places : List ℕ → ℕ) → Refuses (Fits t places (d.base + length d.laying.words.items)) e) → (keys : List (List ℕ)) (row : List Resource) → Holds d keys row → Refuses (HasRoom keys (row ++ t ∷ [])) e
-leaf_long d t e f keys row h =
-    refused_still e _ _ (λ (room : HasRoom keys (row ++ t ∷ [])).
-    let back = fits_back row (t ∷ []) (place_of keys) _ room.fits in
-    rw (h.1.laid_words, h.1.behind) (fits-first t [] (place_of keys) _ back)) (f (place_of keys))
-
--- ---- why a parent is refused
+pub leaf_long : (d : Draft) (t : Resource) (P : Type 0) (e : ResbError) → Refuses P e → ((places : List ℕ → ℕ) → Fits t places (d.base + length d.laying.words.items) → P) → (keys : List (List ℕ)) (row : List Resource) → Holds d keys row → Refuses (HasRoom keys (row ++ t ∷ [])) e
+leaf_long d t P e g f keys row h = refused_long d keys row row t P e h g (λ fits. f (place_of keys) (rw h.1.laid_words fits))
 
 pub row_items : (d : Draft) (keys : List (List ℕ)) (row : List Resource) → Holds d keys row → length d.laying.items.items ≡ length row
 row_items d keys row h = ap length h.1.laid_items ∙ length-lay_all row (place_of keys) d.base
@@ -66,57 +67,27 @@ row_items d keys row h = ap length h.1.laid_items ∙ length-lay_all row (place_
 pub row_levels : (d : Draft) (keys : List (List ℕ)) (row : List Resource) → Holds d keys row → length d.levels.items ≡ length row
 row_levels d keys row h = ap length h.1.deep ∙ length-map row depth
 
-pub deep_parent : (keys : List (List ℕ)) (row xs : List Resource) (t : Resource) → depth t ≡ 1 + most_of (map depth xs) → HasRoom keys (row ++ t ∷ []) → most_of (map depth xs) < 8
-deep_parent keys row xs t d room = omega (arith, d, room.shallow, most_both depth row (t ∷ []))
-
-pub heavy_parent : (d : Draft) (keys : List (List ℕ)) (row xs : List Resource) (t : Resource) (parts : ℕ) → weight t ≡ 1 + parts + weights xs → Holds d keys (row ++ xs) → HasRoom keys (row ++ t ∷ []) → 1 + parts ≤ d.left
-heavy_parent d keys row xs t parts w h room = omega (arith, w, h.1.weight, room.light, weights_both row (t ∷ []), weights_both row xs)
-
--- ---- where there is room for a parent, there is room for its children
-
-parent_room : (keys : List (List ℕ)) (row xs : List Resource) (t : Resource) → ((at : ℕ) → Fits t (place_of keys) at → FitsAll xs (place_of keys) at) → most_of (map depth xs) ≤ depth t → weights xs ≤ weight t → HasRoom keys (row ++ t ∷ []) → HasRoom keys (row ++ xs)
-parent_room keys row xs t fits deep heavy room =
-    let back = fits_back row (t ∷ []) (place_of keys) _ room.fits in
-    record {
-      fits = fits_both row xs (place_of keys) _ (fits_front row (t ∷ []) (place_of keys) _ room.fits) (fits _ (fits-first t [] (place_of keys) _ back));
-      shallow = omega (arith, room.shallow, deep, most_both depth row (t ∷ []), most_both depth row xs);
-      light = omega (arith, room.light, heavy, weights_both row (t ∷ []), weights_both row xs);
-    }
-
-pub array_room : (keys : List (List ℕ)) (row xs : List Resource) → HasRoom keys (row ++ r.Array xs ∷ []) → HasRoom keys (row ++ xs)
-array_room keys row xs = parent_room keys row xs (r.Array xs) (fits-array xs (place_of keys)) (omega (arith, depth-Array xs)) (omega (arith, weight-Array xs))
-
-pub table_room : (keys : List (List ℕ)) (row : List Resource) (es : List (List ℕ × Resource)) → HasRoom keys (row ++ r.Table es ∷ []) → HasRoom keys (row ++ values_in es)
-table_room keys row es = parent_room keys row (values_in es) (r.Table es) (fits-values es (place_of keys)) (omega (arith, depth-Table es)) (omega (arith, weight-Table es, entries_weigh es))
-
 -- ---- why a row is not written
-
--- of two facts of which the first fails
-pub full_words : {X : Type 0} (x : Result X ResbError) (e : ResbError) (P Q : Type 0) → IsErrAnd x (λ y. y ≡ e) → Refuses P e → IfErr x (Refuses (P × Q))
-full_words (Ok v) e P Q h f = absurd h
-full_words (Err y) e P Q h f = rw h (refused_still e P (P × Q) (λ both. both.0) f)
-
-pub unwritten_err : {X : Type 0} (x : Result X ResbError) (e : ResbError) (keys : List (List ℕ)) (row : List Resource) → IsErrAnd x (λ y. y ≡ e) → Unwritten keys row e → IfErr x (Unwritten keys row)
-unwritten_err (Ok v) e keys row h f = absurd h
-unwritten_err (Err y) e keys row h f = rw h f
 
 pub not_one : (d : Draft) (keys : List (List ℕ)) (row : List Resource) (e : ResbError) → Holds d keys row → e ≡ NoTree → length d.laying.items.items ≢ 1 → Unwritten keys row e
 not_one d keys row e h is f = rw is (λ one. f (row_items d keys row h ∙ one))
 
+refused_unwritten : (keys : List (List ℕ)) (row : List Resource) (P : Type 0) (e : ResbError) → Refuses P e → ((P → ⊥) → Unwritten keys row TooLarge) → Unwritten keys row e
+refused_unwritten keys row P Memory f g = f
+refused_unwritten keys row P NoTree f g = absurd f
+refused_unwritten keys row P TooLarge f g = g f
+refused_unwritten keys row P BadKey f g = absurd f
+
 pub no_words : (d : Draft) (keys : List (List ℕ)) (row : List Resource) (e : ResbError) → Holds d keys row → Refuses (d.base + length d.laying.words.items ≤ most_words) e → Unwritten keys row e
-no_words d keys row Memory h f = f
-no_words d keys row NoTree h f = absurd f
-no_words d keys row TooLarge h f = absurd (f (room_words d keys row h))
-no_words d keys row BadKey h f = absurd f
+no_words d keys row e h f = refused_unwritten keys row _ e f (λ full. absurd (full (room_words d keys row h)))
 
 pub too_heavy : (d : Draft) (keys : List (List ℕ)) (row : List Resource) (root weighed : ℕ) (e : ResbError) (words : List ℕ) → Holds d keys row → d.laying.items.items ≡ root ∷ [] → weighed ≡ 8388608 - d.left → words ≡ d.laying.words.items
     → Refuses (weighed ≤ 8 * (6 + (d.base + length words))) e → Unwritten keys row e
-too_heavy d keys row root weighed Memory words h one w is f = f
-too_heavy d keys row root weighed NoTree words h one w is f = absurd f
-too_heavy d keys row root weighed TooLarge words h one w is f =
-    let long : length words ≡ length (lay_all (map laid row) (place_of keys) (words_end keys)).0 = ap length is ∙ ap length h.1.laid_words ∙ ap (λ (at : ℕ). length (lay_all (map laid row) (place_of keys) at).0) h.1.behind in
-    elim (leb_tells weighed (8 * (6 + (d.base + length words)))) [
-      | inl g ↦ absurd (f g.1)
-      | inr g ↦ (omega (arith, row_items d keys row h, ap length one), omega (arith, g.1, long, w, h.1.weight, h.1.behind))
-    ]
-too_heavy d keys row root weighed BadKey words h one w is f = absurd f
+too_heavy d keys row root weighed e words h one w is f = refused_unwritten keys row _ e f (λ heavy.
+    let long : length words ≡ length (lay_all (map laid row) (place_of keys) (words_end keys)).0 = ap length is ∙ ap length h.1.laid_words ∙ ap (λ (at : ℕ). length (lay_all (map laid row) (place_of keys) at).0) h.1.behind in (
+      omega (arith, row_items d keys row h, ap length one),
+      elim (leb_tells weighed (8 * (6 + (d.base + length words)))) [
+        | inl g ↦ absurd (heavy g.1)
+        | inr g ↦ omega (arith, g.1, long, w, h.1.weight, h.1.behind)
+      ],
+    ))

@@ -15,11 +15,11 @@ use Rattle.resb.specs.KeyPlan.{values_in}
 use Rattle.resb.specs.Pool.{bare}
 use Rattle.resb.specs.BadKeys.{all_keys, any_bad, has_bad_key}
 use Rattle.resb.specs.declared.draft.Draft.{Draft}
-use Rattle.resb.proofs.Folds.{bad-Array, bad-Table}
 use Rattle.resb.proofs.LaidSteps.{item_cons}
-use Rattle.resb.proofs.LaidWords.{left_false, refused_still}
-use Rattle.resb.proofs.Rooms.{room_front, array_room, table_room}
+use Rattle.resb.proofs.LaidWords.{refused_still}
+use Rattle.resb.proofs.Rooms.{room_front, parts_room}
 use Rattle.resb.proofs.Rows.{none_parts}
+use Rattle.resb.proofs.TreeKinds.{IsParent, parent-Array, parent-Table}
 
 abbrev Good : List Resource → Type 0
 Good xs = any_bad (map has_bad_key xs) ≡ false
@@ -62,30 +62,27 @@ pub puts_tells : {X : Type 0} (old new : Draft) (t : Resource) (x : Result X Res
 puts_tells old new t (Ok v) f = λ keys row good h. f keys row h
 puts_tells old new t (Err e) f = λ keys row good h. f keys row h
 
-pub array_good : (xs : List Resource) → Good (r.Array xs ∷ []) → Good xs
-array_good xs good = sym (bad-Array xs) ∙ left_false (has_bad_key (r.Array xs)) false good
-
-pub array_told : {X : Type 0} (old mid new : Draft) (xs : List Resource) (count : ℕ) (x : Result X ResbError) → length xs ≡ count → ((keys : List (List ℕ)) (row : List Resource) → Good xs → Holds old keys row → Holds mid keys (row ++ xs)) → MakesArray mid new count x → Tells old new (r.Array xs ∷ []) x
-array_told old mid new xs count (Ok v) n told f = λ keys row good h. f keys row xs n (told keys row (array_good xs good) h)
-array_told old mid new xs count (Err e) n told f = λ keys row good h. f.large keys row xs n (told keys row (array_good xs good) h)
-
-pub array_stop : (old : Draft) (xs : List Resource) (e : ResbError) → ((keys : List (List ℕ)) (row : List Resource) → Good xs → Holds old keys row → Refuses (HasRoom keys (row ++ xs)) e) → (keys : List (List ℕ)) (row : List Resource) → Good (r.Array xs ∷ []) → Holds old keys row → Refuses (HasRoom keys (row ++ r.Array xs ∷ [])) e
-array_stop old xs e f keys row good h = refused_still e _ _ (array_room keys row xs) (f keys row (array_good xs good) h)
-
-pub table_good : (es : List (List ℕ × Resource)) → Good (r.Table es ∷ []) → (all_keys (keys_in es) ≡ true) × (distinct (keys_in es) ≡ true) × Good (values_in es)
-table_good es good =
-    let parts = or_parts _ _ (sym (bad-Table es) ∙ left_false (has_bad_key (r.Table es)) false good) in
+-- a parent without bad keys has good names, and parts without bad keys
+parent_good : (t : Resource) (xs : List Resource) (names : List (List ℕ)) → IsParent t xs names → Good (t ∷ []) → (all_keys names ≡ true) × (distinct names ≡ true) × Good xs
+parent_good t xs names p good =
+    let parts = or_parts _ _ (sym p.bad ∙ (or_parts _ _ good).0) in
     let own = and_parts _ _ (not-false _ parts.0) in
     (own.0, own.1, parts.1)
 
-pub table_told : {X : Type 0} (old mid new : Draft) (es : List (List ℕ × Resource)) (names : List (List ℕ)) (x : Result X ResbError) → keys_in es ≡ names → ((keys : List (List ℕ)) (row : List Resource) → Good (values_in es) → Holds old keys row → Holds mid keys (row ++ values_in es)) → Names mid new names x → Tells old new (r.Table es ∷ []) x
-table_told old mid new es names (Ok v) e told f = λ keys row good h.
-    let fine = table_good es good in
-    f keys row es e (rw e at fine.0) (rw e at fine.1) (told keys row fine.2 h)
-table_told old mid new es names (Err y) e told f = λ keys row good h. f.large keys row es e (told keys row (table_good es good).2 h)
+pub array_told : {X : Type 0} (old mid new : Draft) (xs : List Resource) (x : Result X ResbError) → ((keys : List (List ℕ)) (row : List Resource) → Good xs → Holds old keys row → Holds mid keys (row ++ xs)) → MakesArray mid new (length xs) x → Tells old new (r.Array xs ∷ []) x
+array_told old mid new xs (Ok v) told f = λ keys row good h. f keys row xs refl (told keys row (parent_good (r.Array xs) xs [] (parent-Array xs) good).2 h)
+array_told old mid new xs (Err e) told f = λ keys row good h. f.large keys row xs refl (told keys row (parent_good (r.Array xs) xs [] (parent-Array xs) good).2 h)
 
-pub table_stop : (old : Draft) (es : List (List ℕ × Resource)) (e : ResbError) → ((keys : List (List ℕ)) (row : List Resource) → Good (values_in es) → Holds old keys row → Refuses (HasRoom keys (row ++ values_in es)) e) → (keys : List (List ℕ)) (row : List Resource) → Good (r.Table es ∷ []) → Holds old keys row → Refuses (HasRoom keys (row ++ r.Table es ∷ [])) e
-table_stop old es e f keys row good h = refused_still e _ _ (table_room keys row es) (f keys row (table_good es good).2 h)
+pub table_told : {X : Type 0} (old mid new : Draft) (es : List (List ℕ × Resource)) (x : Result X ResbError) → ((keys : List (List ℕ)) (row : List Resource) → Good (values_in es) → Holds old keys row → Holds mid keys (row ++ values_in es)) → Names mid new (keys_in es) x → Tells old new (r.Table es ∷ []) x
+table_told old mid new es (Ok v) told f = λ keys row good h.
+    let fine = parent_good (r.Table es) (values_in es) (keys_in es) (parent-Table es) good in
+    f keys row es refl fine.0 fine.1 (told keys row fine.2 h)
+table_told old mid new es (Err y) told f = λ keys row good h. f.large keys row es refl (told keys row (parent_good (r.Table es) (values_in es) (keys_in es) (parent-Table es) good).2 h)
+
+-- where the parts of a parent have no room, it has none
+pub parent_stop : (old : Draft) (t : Resource) (xs : List Resource) (names : List (List ℕ)) (e : ResbError) → IsParent t xs names → ((keys : List (List ℕ)) (row : List Resource) → Good xs → Holds old keys row → Refuses (HasRoom keys (row ++ xs)) e)
+    → (keys : List (List ℕ)) (row : List Resource) → Good (t ∷ []) → Holds old keys row → Refuses (HasRoom keys (row ++ t ∷ [])) e
+parent_stop old t xs names e p f keys row good h = refused_still e _ _ (parts_room keys row xs t names p) (f keys row (parent_good t xs names p good).2 h)
 
 -- a value of entries, by its entry
 pub value_at : (es : List (List ℕ × Resource)) (i : ℕ) (e : List ℕ × Resource) → i < length es → e ≡ get_or es i e → (i < length (values_in es)) × (e.1 ≡ get_or (values_in es) i e.1)

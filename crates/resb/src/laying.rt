@@ -1,7 +1,8 @@
 ghost use Rattle.std.specs.Prelude.{◌≡◌, ◌+◌, ◌<◌, ◌≤◌, ◌++◌, nat_le, length, OnOk, IfOk, IfErr};
 ghost use Rattle.resb.specs.Plan.{most_words, Refuses};
 ghost use Rattle.resb.specs.KeyPlan.{no_places};
-ghost use Rattle.resb.specs.LaidTrees.{text_laid, bytes_laid, integers_laid};
+ghost use Rattle.resb.specs.LaidTrees.{laid};
+ghost use Rattle.resb_tree.specs.declared.resource.Resource.TheVariants as r;
 
 use crate::packing::{push_bytes, push_text};
 use resb_tree::ResbError;
@@ -33,15 +34,15 @@ pub fn has_room(base: usize, out: &Vec<u32>, more: usize) -> bool
 pub fn lay_text(units: &[u16], base: usize, out: &mut Vec<u32>) -> Result<u32, ResbError>
     requires { base + length out.old.items ≤ most_words }
     ensures words { OnOk result (out.new.items ≡ out.old.items
-        ++ (text_laid units.now no_places (base + length out.old.items)).0) }
+        ++ (laid (r.Text units.now) no_places (base + length out.old.items)).0) }
     ensures item { IfOk result
-        (λ v. v ≡ (text_laid units.now no_places (base + length out.old.items)).1) }
+        (λ v. v ≡ (laid (r.Text units.now) no_places (base + length out.old.items)).1) }
     ensures bound { OnOk result
         (base + length out.old.items
-        + length (text_laid units.now no_places (base + length out.old.items)).0 ≤ most_words) }
+        + length (laid (r.Text units.now) no_places (base + length out.old.items)).0 ≤ most_words) }
     ensures err { IfErr result
         (Refuses (base + length out.old.items
-        + length (text_laid units.now no_places (base + length out.old.items)).0 ≤ most_words)) }
+        + length (laid (r.Text units.now) no_places (base + length out.old.items)).0 ≤ most_words)) }
 {
     let count = units.len();
     if count == 0 {
@@ -61,15 +62,15 @@ pub fn lay_text(units: &[u16], base: usize, out: &mut Vec<u32>) -> Result<u32, R
 pub fn lay_bytes(bytes: &[u8], base: usize, out: &mut Vec<u32>) -> Result<u32, ResbError>
     requires { base + length out.old.items ≤ most_words }
     ensures words { OnOk result (out.new.items ≡ out.old.items
-        ++ (bytes_laid bytes.now no_places (base + length out.old.items)).0) }
+        ++ (laid (r.Bytes bytes.now) no_places (base + length out.old.items)).0) }
     ensures item { IfOk result
-        (λ v. v ≡ (bytes_laid bytes.now no_places (base + length out.old.items)).1) }
+        (λ v. v ≡ (laid (r.Bytes bytes.now) no_places (base + length out.old.items)).1) }
     ensures bound { OnOk result
         (base + length out.old.items
-        + length (bytes_laid bytes.now no_places (base + length out.old.items)).0 ≤ most_words) }
+        + length (laid (r.Bytes bytes.now) no_places (base + length out.old.items)).0 ≤ most_words) }
     ensures err { IfErr result
         (Refuses (base + length out.old.items
-        + length (bytes_laid bytes.now no_places (base + length out.old.items)).0 ≤ most_words)) }
+        + length (laid (r.Bytes bytes.now) no_places (base + length out.old.items)).0 ≤ most_words)) }
 {
     let count = bytes.len();
     if count == 0 {
@@ -89,16 +90,16 @@ pub fn lay_bytes(bytes: &[u8], base: usize, out: &mut Vec<u32>) -> Result<u32, R
 pub fn lay_integers(values: &[u32], base: usize, out: &mut Vec<u32>) -> Result<u32, ResbError>
     requires { base + length out.old.items ≤ most_words }
     ensures words { OnOk result (out.new.items ≡ out.old.items
-        ++ (integers_laid values.now no_places (base + length out.old.items)).0) }
+        ++ (laid (r.Integers values.now) no_places (base + length out.old.items)).0) }
     ensures item { IfOk result
-        (λ v. v ≡ (integers_laid values.now no_places (base + length out.old.items)).1) }
+        (λ v. v ≡ (laid (r.Integers values.now) no_places (base + length out.old.items)).1) }
     ensures bound { OnOk result
         (base + length out.old.items
-        + length (integers_laid values.now no_places (base + length out.old.items)).0
+        + length (laid (r.Integers values.now) no_places (base + length out.old.items)).0
         ≤ most_words) }
     ensures err { IfErr result
         (Refuses (base + length out.old.items
-        + length (integers_laid values.now no_places (base + length out.old.items)).0
+        + length (laid (r.Integers values.now) no_places (base + length out.old.items)).0
         ≤ most_words)) }
 {
     let count = values.len();

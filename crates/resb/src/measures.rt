@@ -57,7 +57,7 @@ fn bad_key_in_values(alloc: Global, entries: &[(Key, Resource)]) -> Result<bool,
 
 /// Whether a key has a byte outside 1 to 127, or stands twice in one table.
 #[cycle(bad)]
-#[tactic(auto, using(crate::proofs::Folds::bad_keys))]
+#[tactic(auto, using(crate::proofs::Folds::layers), unfolding(crate::specs::BadKeys::has_bad_key))]
 pub fn has_bad_key(alloc: Global, tree: &Resource) -> Result<bool, AllocError>
     ensures { IfOk result (λ answer. answer ≡ has_bad_key tree.now) }
 {

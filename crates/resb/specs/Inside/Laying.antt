@@ -1,5 +1,5 @@
 -- Trees whose words stand behind others.
-use Rattle.std.specs.Prelude.{◌≡◌, ℕ, ◌+◌, List, ◌++◌, length, map, Result, Ok, Err}
+use Rattle.std.specs.Prelude.{◌≡◌, ℕ, ◌+◌, List, ◌++◌, length, map, Result, MatchResult}
 use Rattle.resb_tree.specs.declared.error.ResbError.{ResbError}
 use Rattle.resb_tree.specs.declared.resource.Resource.{Resource}
 use Rattle.resb.specs.Plan.{Fits, FitsAll, Refuses}
@@ -19,5 +19,4 @@ pub record Stands (ts : List Resource) (places : List ℕ → ℕ) (base : ℕ) 
 
 -- a tree was laid behind the old words, and its item is answered; or memory ran out, or the tree does not fit there
 abbrev pub Lays : Resource → (List ℕ → ℕ) → ℕ → List ℕ → List ℕ → Result ℕ ResbError → Type 0
-Lays t places base old new (Ok told) = IsLaid t places base old new told
-Lays t places base old new (Err e) = Refuses (Fits t places (base + length old)) e
+Lays t places base old new result = MatchResult result (IsLaid t places base old new) (Refuses (Fits t places (base + length old)))

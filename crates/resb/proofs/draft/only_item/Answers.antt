@@ -1,5 +1,5 @@
 use Rattle.std.proofs.Common.{arith}
-use Rattle.resb.proofs.RowParts.{one_item}
+use Rattle.resb.proofs.LaidSteps.{one_item}
 use Rattle.resb.proofs.draft.only_item.Goals as goal
 
 pub returns-then-items-eq1-clause-item : goal.returns-then-items-eq1-clause-item

@@ -1,17 +1,18 @@
-use Rattle.std.proofs.Common.{◌≤◌, length, refl, sym, arith}
+use Rattle.std.proofs.Common.{◌≤◌, [], length, arith}
 use Rattle.resb_tree.specs.declared.resource.Resource.TheVariants as r
+use Rattle.resb_tree.specs.Keys.{keys_in}
 use Rattle.resb.specs.KeyPlan.{values_in}
-use Rattle.resb.specs.Pool.{bare}
 use Rattle.resb.proofs.LaidSteps.{length-values}
-use Rattle.resb.proofs.Rooms.{err_on}
-use Rattle.resb.proofs.Told.{told_next, told_all, told_stop, puts_tells, array_told, array_stop, table_told, table_stop, value_at}
+use Rattle.resb.proofs.LaidWords.{err_on}
+use Rattle.resb.proofs.Told.{told_next, told_all, told_stop, puts_tells, array_told, table_told, parent_stop, value_at}
+use Rattle.resb.proofs.TreeKinds.{parent-Array, parent-Table}
 use Rattle.resb.proofs.writing.+tell.Goals as goal
 
 pub tell_array-returns-in_err-tell : goal.tell_array-returns-in_err-tell
 tell_array-returns-in_err-tell t c =
     let old = c.args.draft.now in
     let xs = c.args.items.now in
-    err_on c.from_residual.result _ _ _ c.from_residual.ensures.1 (array_stop old xs _ (told_stop old c.loop-item.draft xs c.loop-item.item-index c.item-item.result _ c.loop-item-test.true c.item-item.is c.loop-item.invariant c.in_err-tell.ensures))
+    err_on c.from_residual.result _ _ _ c.from_residual.ensures.1 (parent_stop old (r.Array xs) xs [] _ (parent-Array xs) (told_stop old c.loop-item.draft xs c.loop-item.item-index c.item-item.result _ c.loop-item-test.true c.item-item.is c.loop-item.invariant c.in_err-tell.ensures))
 
 pub tell_array-loop-item-preserved : goal.tell_array-loop-item-preserved
 tell_array-loop-item-preserved t c =
@@ -21,7 +22,7 @@ pub tell_array-returns : goal.tell_array-returns
 tell_array-returns t c =
     let xs = c.args.items.now in
     let all : length xs ≤ c.loop-item.item-index = omega arith in
-    array_told c.args.draft.now c.loop-item.draft c.array.new.self xs (length xs) c.array.result refl (told_all c.args.draft.now c.loop-item.draft xs c.loop-item.item-index all c.loop-item.invariant) c.array.ensures
+    array_told c.args.draft.now c.loop-item.draft c.array.new.self xs c.array.result (told_all c.args.draft.now c.loop-item.draft xs c.loop-item.item-index all c.loop-item.invariant) c.array.ensures
 
 pub tell_table-returns-in_err-tell : goal.tell_table-returns-in_err-tell
 tell_table-returns-in_err-tell t c =
@@ -29,7 +30,7 @@ tell_table-returns-in_err-tell t c =
     let es = c.args.entries.now in
     let entry = c.loop-value-item.result in
     let at = value_at es c.loop-value.value-index entry c.loop-value-test.true c.loop-value-item.is in
-    err_on c.from_residual.result _ _ _ c.from_residual.ensures.1 (table_stop old es _ (told_stop old c.loop-value.draft (values_in es) c.loop-value.value-index entry.1 _ at.0 at.1 c.loop-value.invariant c.in_err-tell.ensures))
+    err_on c.from_residual.result _ _ _ c.from_residual.ensures.1 (parent_stop old (r.Table es) (values_in es) (keys_in es) _ (parent-Table es) (told_stop old c.loop-value.draft (values_in es) c.loop-value.value-index entry.1 _ at.0 at.1 c.loop-value.invariant c.in_err-tell.ensures))
 
 pub tell_table-loop-value-preserved : goal.tell_table-loop-value-preserved
 tell_table-loop-value-preserved t c =
@@ -45,7 +46,8 @@ pub tell_table-returns : goal.tell_table-returns
 tell_table-returns t c =
     let es = c.args.entries.now in
     let all : length (values_in es) ≤ c.loop-value.value-index = omega (arith, length-values es) in
-    table_told c.args.draft.now c.loop-value.draft c.table_under.new.self es (bare c.as_slice.result.now) c.table_under.result (rw c.as_slice.ensures.value (sym c.in_ok-keys.ensures)) (told_all c.args.draft.now c.loop-value.draft (values_in es) c.loop-value.value-index all c.loop-value.invariant) c.table_under.ensures
+    table_told c.args.draft.now c.loop-value.draft c.table_under.new.self es c.table_under.result (told_all c.args.draft.now c.loop-value.draft (values_in es) c.loop-value.value-index all c.loop-value.invariant)
+    (rw (c.as_slice.ensures.value, c.in_ok-keys.ensures) at c.table_under.ensures)
 
 pub tell-returns-in-Text : goal.tell-returns-in-Text
 tell-returns-in-Text t c = rw (c.in-Text.is, ← c.as_slice.ensures) (puts_tells c.args.draft.now c.text.new.self (r.Text c.as_slice.result.now) c.text.result c.text.ensures)

@@ -2,10 +2,11 @@ use Rattle.std.proofs.Common.{◌≡◌, ◌∙◌, refl, sym, false, ℕ, List,
 use Rattle.resb.specs.declared.pool.KeyPool.{KeyPool}
 use Rattle.resb.specs.DraftRows.{Holds}
 use Rattle.resb.specs.Pool.{bare}
-use Rattle.resb.specs.TreeKeys.{key_pool}
+use Rattle.resb.specs.TreeKeys.{key_pool, keys_met}
 use Rattle.resb.specs.BadKeys.{any_bad, has_bad_key}
+use Rattle.resb.proofs.Pools.{pool_first}
 use Rattle.resb.proofs.RowParts.{row_kept}
-use Rattle.resb.proofs.WrittenWords.{pool_told, pool_is, pool_near, pool_good, over_end, kept_room, error_on, refusal_told, answer_told}
+use Rattle.resb.proofs.WrittenWords.{pool_told, pool_good, over_end, kept_room, error_on, refusal_told, answer_told}
 use Rattle.resb.proofs.writing.write.Goals as goal
 
 abbrev view : Vec ℕ Global → List ℕ
@@ -18,7 +19,7 @@ returns-in_err-pool-clause-words c =
     error_on view c.from_residual-in_err-pool.result _ _ c.from_residual-in_err-pool.ensures.1 (pool_told keys c.args.tree.now c.in_err-pool.field-0.0 view good c.in_err-pool.ensures)
 
 pub over-requires-clause-near : goal.over-requires-clause-near
-over-requires-clause-near c = pool_near c.args.tree.now _ c.in_ok-pool.ensures
+over-requires-clause-near c = (pool_first (keys_met c.args.tree.now) _ c.in_ok-pool.ensures).1
 
 pub over-requires-clause-good : goal.over-requires-clause-good
 over-requires-clause-good c = pool_good c.args.tree.now _ (sym c.in_ok-has_bad_key.ensures ∙ c.if-branch.false) c.in_ok-pool.ensures
@@ -33,7 +34,7 @@ returns-in_err-tell-clause-words c =
     let t = c.args.tree.now in
     let good : has_bad_key t ≡ false = sym c.in_ok-has_bad_key.ensures ∙ c.if-branch.false in
     let none : any_bad (has_bad_key t ∷ []) ≡ false = rw good refl in
-    let begun : Holds c.in_ok-draft.draft (key_pool t) [] = rw (pool_is t _ c.in_ok-pool.ensures) at c.in_ok-draft.ensures.holds in
+    let begun : Holds c.in_ok-draft.draft (key_pool t) [] = rw (pool_first (keys_met t) _ c.in_ok-pool.ensures).0 at c.in_ok-draft.ensures.holds in
     error_on view c.from_residual-in_err-tell.result _ _ c.from_residual-in_err-tell.ensures.1 (refusal_told t _ view _ good (kept_room t) (c.in_err-tell.ensures (key_pool t) [] none begun))
 
 pub returns-clause-words : goal.returns-clause-words
@@ -41,7 +42,7 @@ returns-clause-words c =
     let t = c.args.tree.now in
     let good : has_bad_key t ≡ false = sym c.in_ok-has_bad_key.ensures ∙ c.if-branch.false in
     let none : any_bad (has_bad_key t ∷ []) ≡ false = rw good refl in
-    let begun : Holds c.in_ok-draft.draft (key_pool t) [] = rw (pool_is t _ c.in_ok-pool.ensures) at c.in_ok-draft.ensures.holds in
+    let begun : Holds c.in_ok-draft.draft (key_pool t) [] = rw (pool_first (keys_met t) _ c.in_ok-pool.ensures).0 at c.in_ok-draft.ensures.holds in
     let held : Holds c.tell.new.draft (key_pool t) (t ∷ []) = c.in_ok-tell.ensures (key_pool t) [] none begun in
     answer_told view t c.write.result good (row_kept t _ _ _ _ _ _ held.1) (c.write.ensures.words t held) (c.write.ensures.bound t held) (c.write.ensures.err (key_pool t) (t ∷ []) held)
 
@@ -50,5 +51,5 @@ returns-clause-denoted c =
     let t = c.args.tree.now in
     let good : has_bad_key t ≡ false = sym c.in_ok-has_bad_key.ensures ∙ c.if-branch.false in
     let none : any_bad (has_bad_key t ∷ []) ≡ false = rw good refl in
-    let begun : Holds c.in_ok-draft.draft (key_pool t) [] = rw (pool_is t _ c.in_ok-pool.ensures) at c.in_ok-draft.ensures.holds in
+    let begun : Holds c.in_ok-draft.draft (key_pool t) [] = rw (pool_first (keys_met t) _ c.in_ok-pool.ensures).0 at c.in_ok-draft.ensures.holds in
     c.write.ensures.denoted t (c.in_ok-tell.ensures (key_pool t) [] none begun)

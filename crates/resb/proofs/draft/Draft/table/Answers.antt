@@ -1,17 +1,14 @@
 use Rattle.std.proofs.Common.{◌∙◌, sym}
+use Rattle.std.proofs.lemmas.Bool.{both_ways}
 use Rattle.resb.specs.Pool.{bare}
-use Rattle.resb.proofs.Refusals.{makes_table, bad_names, unknown_names, equal_names}
+use Rattle.resb.proofs.Refusals.{makes_table, bad_names}
 use Rattle.resb.proofs.draft.Draft.table.Goals as goal
 
 pub returns-then-not-are_known : goal.returns-then-not-are_known
-returns-then-not-are_known c =
-    let names = bare c.args.keys.now in
-    bad_names c.args.self.now names (unknown_names c.args.self.now names (sym c.are_known.ensures ∙ c.if-not-are_known.true))
+returns-then-not-are_known c = bad_names c.args.self.now (bare c.args.keys.now) (λ keys row h fine. both_ways _ (rw h.0 at (sym c.are_known.ensures ∙ c.if-not-are_known.true)) fine.0)
 
 pub returns-then-not-are_distinct : goal.returns-then-not-are_distinct
-returns-then-not-are_distinct c =
-    let names = bare c.args.keys.now in
-    bad_names c.args.self.now names (equal_names c.args.self.now names (sym c.are_distinct.ensures ∙ c.if-not-are_distinct.true))
+returns-then-not-are_distinct c = bad_names c.args.self.now (bare c.args.keys.now) (λ keys row h fine. both_ways _ (sym c.are_distinct.ensures ∙ c.if-not-are_distinct.true) fine.1)
 
 pub returns : goal.returns
 returns c =

@@ -2,25 +2,26 @@ use Rattle.std.proofs.Common.{◌≡◌, ◌≢◌, ◌∙◌, ◌+◌, ◌-◌,
 use Rattle.resb.specs.Plan.{bundle_of}
 use Rattle.resb.specs.TreeKeys.{key_pool}
 use Rattle.resb.specs.WrittenFiles.{written}
+use Rattle.resb.proofs.LaidWords.{err_on}
 use Rattle.resb.proofs.RowParts.{row_written, row_light, row_denotes}
-use Rattle.resb.proofs.Rooms.{row_items, unwritten_err, not_one, no_words, too_heavy}
+use Rattle.resb.proofs.Rooms.{row_items, not_one, no_words, too_heavy}
 use Rattle.resb.proofs.draft.Draft.write.Goals as goal
 
 pub returns-in_err-root-clause-err : goal.returns-in_err-root-clause-err
 returns-in_err-root-clause-err c =
     let d = c.args.self in
     let few : length d.laying.items.items ≢ 1 = rw c.as_slice.ensures.value at c.in_err-root.ensures.err.1 in
-    λ keys row h. unwritten_err c.from_residual.result _ keys row c.from_residual.ensures.1 (not_one d keys row _ h c.in_err-root.ensures.err.0 few)
+    λ keys row h. err_on _ _ _ _ c.from_residual.ensures.1 (not_one d keys row _ h c.in_err-root.ensures.err.0 few)
 
 pub returns-in_err-check_room-clause-err : goal.returns-in_err-check_room-clause-err
 returns-in_err-check_room-clause-err c =
-    λ keys row h. unwritten_err c.from_residual-in_err-check_room.result _ keys row c.from_residual-in_err-check_room.ensures.1 (no_words c.args.self keys row _ h c.in_err-check_room.ensures.err)
+    λ keys row h. err_on _ _ _ _ c.from_residual-in_err-check_room.ensures.1 (no_words c.args.self keys row _ h c.in_err-check_room.ensures.err)
 
 pub returns-in_err-words-clause-err : goal.returns-in_err-words-clause-err
 returns-in_err-words-clause-err c =
     let d = c.args.self in
     let one : d.laying.items.items ≡ c.in_ok-root.root ∷ [] = rw c.as_slice.ensures.value at c.in_ok-root.ensures.item in
-    λ keys row h. unwritten_err c.from_residual-in_err-words.result _ keys row c.from_residual-in_err-words.ensures.1 (too_heavy d keys row _ c.saturating_sub-weighed.result _ c.as_slice-2.result.now h one (omega (arith, c.saturating_sub-weighed.ensures)) c.as_slice-2.ensures.value c.in_err-words.ensures.err)
+    λ keys row h. err_on _ _ _ _ c.from_residual-in_err-words.ensures.1 (too_heavy d keys row _ c.saturating_sub-weighed.result _ c.as_slice-2.result.now h one (omega (arith, c.saturating_sub-weighed.ensures)) c.as_slice-2.ensures.value c.in_err-words.ensures.err)
 
 pub returns-clause-words : goal.returns-clause-words
 returns-clause-words c =
