@@ -1,7 +1,8 @@
 -- Values in a row, as a loop reads them.
-use Rattle.std.proofs.Common.{sym, add-one, drop-cons, ◌≡◌, get_or, take, drop, ℕ, zero, suc, ◌+◌, ◌-◌, ◌*◌, ◌/◌, ◌%◌, ◌<◌, ◌≤◌, List, [], ◌∷◌, ◌++◌, length, Some, None, refl, ap, ◌∙◌, add-zero, arith}
+use Rattle.std.proofs.Common.{sym, add-one, drop-cons, ◌≡◌, get_or, take, drop, ℕ, zero, suc, ◌+◌, ◌-◌, ◌*◌, ◌/◌, ◌%◌, ◌<◌, ◌≤◌, List, [], ◌∷◌, ◌++◌, length, Some, None, refl, ap, ◌∙◌, add-zero, append_assoc, arith}
 use Rattle.std.specs.Prelude.{slice_get}
 use Rattle.std.proofs.lemmas.Bool.Decides.{nat_tests}
+use Rattle.std.proofs.lemmas.List.{append-nil}
 use Rattle.resb_tree.specs.Words.{run}
 
 pub run_push : {A : Type 0} (at : ℕ → A) (from count : ℕ) → run at from (count + 1) ≡ run at from count ++ at (from + count) ∷ []
@@ -29,17 +30,17 @@ run_grow at from i le =
     let j : from + (i - from) ≡ i = omega arith in
     rw (k, run_push at from (i - from), j) refl
 
--- two more, and four
+-- two more, and any count
 pub run_two : {A : Type 0} (at : ℕ → A) (from i : ℕ) → from ≤ i → run at from (i + 2 - from) ≡ (run at from (i - from) ++ at i ∷ []) ++ at (i + 1) ∷ []
 run_two at from i le =
     let k : i + 2 ≡ i + 1 + 1 = omega arith in
     rw (k, run_grow at from (i + 1) (omega arith), run_grow at from i le) refl
 
-pub run_four : {A : Type 0} (at : ℕ → A) (from i : ℕ) → from ≤ i → run at from (i + 4 - from) ≡ (((run at from (i - from) ++ at i ∷ []) ++ at (i + 1) ∷ []) ++ at (i + 2) ∷ []) ++ at (i + 3) ∷ []
-run_four at from i le =
-    let k : i + 4 ≡ i + 2 + 2 = omega arith in
-    let j : i + 3 ≡ i + 2 + 1 = omega arith in
-    rw (k, run_two at from (i + 2) (omega arith), run_two at from i le, j) refl
+pub run_join : {A : Type 0} (at : ℕ → A) (from i count : ℕ) → from ≤ i → run at from (i + count - from) ≡ run at from (i - from) ++ run at i count
+run_join at from i zero le = rw (add-zero, append-nil (run at from (i - from))) refl
+run_join at from i (suc count) le =
+    let k : i + suc count ≡ i + 1 + count = omega arith in
+    rw (k, run_join at from (i + 1) count (omega arith), run_grow at from i le, append_assoc (run at from (i - from)) (at i ∷ []) (run at (i + 1) count)) refl
 
 -- a word's first unit and byte
 pub even_place : (i : ℕ) → i % 2 ≡ 0 → i / 2 * 2 ≡ i
@@ -81,4 +82,4 @@ run_shift at base from (suc count) =
 
 pub ruleset two_more = (run_grow, run_two, even_place, nat_tests)
 
-pub ruleset four_more = (run_grow, run_four, word_place, nat_tests)
+pub ruleset four_more = (run_grow, run_join, word_place, nat_tests)

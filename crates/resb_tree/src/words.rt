@@ -1,4 +1,4 @@
-ghost use Rattle.std.specs.Prelude.{◌≡◌, ℕ, ◌+◌, ◌*◌, ◌/◌, ◌%◌, ◌<◌, ◌≤◌, length, slice_index, take, IfOk};
+ghost use Rattle.std.specs.Prelude.{◌≡◌, ℕ, ◌+◌, ◌*◌, ◌/◌, ◌%◌, ◌<◌, ◌≤◌, ◌++◌, length, slice_index, take, IfOk, vec_len, vec_capacity};
 ghost use Rattle.resb_tree.specs.Words.{run, unit_in, byte_in};
 
 use sqlite_items::Items;
@@ -77,6 +77,21 @@ pub fn copy_units(words: &[u32], from: usize, count: usize, units: &mut [u16])
     }
 }
 
+/// Appends the four bytes of a word.
+fn push_word(bytes: &mut Vec<u8>, words: &[u32], at: usize)
+    requires within { at < length words.now }
+    requires room { vec_len bytes.old + 4 ≤ vec_capacity bytes.old }
+    ensures items { bytes.new.items ≡ bytes.old.items ++ run (byte_in words.now) (4 * at) 4 }
+    ensures len { vec_len bytes.new ≡ vec_len bytes.old + 4 }
+    ensures room { vec_capacity bytes.new ≡ vec_capacity bytes.old }
+{
+    let word = words[at];
+    bytes.push_reserved((word % 256) as u8);
+    bytes.push_reserved((word / 256 % 256) as u8);
+    bytes.push_reserved((word / 65_536 % 256) as u8);
+    bytes.push_reserved((word / 16_777_216) as u8);
+}
+
 /// So many bytes, from one on.
 #[tactic(auto, using(crate::proofs::Runs::four_more))]
 pub fn bytes_from(
@@ -93,12 +108,7 @@ pub fn bytes_from(
     let mut at = from;
     while at < end {
         if at % 4 == 0 && end - at >= 4 {
-            // a whole word
-            let first = at / 4 * 4;
-            found.push_reserved(byte_at(words, first));
-            found.push_reserved(byte_at(words, first + 1));
-            found.push_reserved(byte_at(words, first + 2));
-            found.push_reserved(byte_at(words, first + 3));
+            push_word(&mut found, words, at / 4);
             at += 4;
         } else {
             found.push_reserved(byte_at(words, at));
