@@ -2,3 +2,4 @@
 pub mod Checks
 pub mod Places
 pub mod Parts
+pub mod Bytes

@@ -12,7 +12,7 @@ use crate::forms::TableForm;
 use crate::key::Key;
 use crate::keys::many_distinct;
 use crate::places::entry_at;
-use crate::words::{byte_at, bytes_from};
+use crate::words::{byte_at, bytes_after, bytes_from, bytes_on};
 use sqlite_items::Items;
 use std::alloc::{AllocError, Global};
 
@@ -26,14 +26,16 @@ pub fn key_is(body: &BodyWords<'_>, place: usize, bytes: &[u8]) -> bool
     ensures { result ≡ bytes_eq (key_there (told body.now) place) bytes.now }
 {
     let mut at = place;
+    let mut left = bytes_on(body.words, place);
     for wanted in bytes {
-        let byte = byte_at(body.words, at);
+        let byte = (left % 256) as u8;
         if byte == 0 || byte != *wanted {
             return false;
         }
+        left = bytes_after(body.words, at, left);
         at += 1;
     }
-    byte_at(body.words, at) == 0
+    left % 256 == 0
 }
 
 /// Whether the keys at two places are equal.

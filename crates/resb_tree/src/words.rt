@@ -1,15 +1,37 @@
 ghost use Rattle.std.specs.Prelude.{◌≡◌, ℕ, ◌+◌, ◌*◌, ◌/◌, ◌%◌, ◌<◌, ◌≤◌, ◌++◌, length, slice_index, take, IfOk, vec_len, vec_capacity};
 ghost use Rattle.resb_tree.specs.Words.{run, unit_in, byte_in};
+ghost use Rattle.resb_tree.specs.Inside.Bytes.{AreBytesOn};
 
 use sqlite_items::Items;
 use std::alloc::{AllocError, Global};
+
+/// The bytes of a word from the one at a place on, which is the lowest of them.
+pub fn bytes_on(words: &[u32], at: usize) -> u32
+    requires { at < 4 * length words.now }
+    ensures { AreBytesOn words.now at result }
+{
+    words[at / 4] >> (8 * (at % 4) as u32)
+}
+
+/// The same at the next place, by those at this one.
+pub fn bytes_after(words: &[u32], at: usize, bytes: u32) -> u32
+    requires within { at + 1 < 4 * length words.now }
+    requires bytes { AreBytesOn words.now at bytes }
+    ensures { AreBytesOn words.now (at + 1) result }
+{
+    if at % 4 == 3 {
+        words[at / 4 + 1]
+    } else {
+        bytes / 256
+    }
+}
 
 /// The byte at a place, low bytes of a word first.
 pub fn byte_at(words: &[u32], at: usize) -> u8
     requires { at < 4 * length words.now }
     ensures { result ≡ byte_in words.now at }
 {
-    ((words[at / 4] >> (8 * (at % 4) as u32)) % 256) as u8
+    (bytes_on(words, at) % 256) as u8
 }
 
 /// The 16-bit unit at a place, the low unit of a word first.

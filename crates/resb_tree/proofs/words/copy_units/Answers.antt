@@ -3,14 +3,14 @@ use Rattle.std.proofs.lemmas.Bool.Decides.{nat_tests}
 use Rattle.std.proofs.lemmas.Grind.{take-set_at}
 use Rattle.std.proofs.lemmas.List.{length-set}
 use Rattle.resb_tree.specs.Words.{run, unit_in}
-use Rattle.resb_tree.proofs.Runs.{run-push}
+use Rattle.resb_tree.proofs.Runs.{run_push}
 use Rattle.resb_tree.proofs.words.copy_units.Goals as goal
 
 -- one more value was copied
 copied : (at : ℕ → ℕ) (from i next : ℕ) (units : List ℕ) (x : ℕ) → next ≡ i + 1 → i < length units → take i units ≡ run at from i → x ≡ at (from + i)
     → take next (slice_set units i x) ≡ run at from next
 copied at from i next units x n lt e f =
-    take-set_at units i next x n lt ∙ ap (λ us. us ++ x ∷ []) e ∙ ap (λ y. run at from i ++ y ∷ []) f ∙ sym (run-push at from i) ∙ ap (run at from) (sym n)
+    take-set_at units i next x n lt ∙ ap (λ us. us ++ x ∷ []) e ∙ ap (λ y. run at from i ++ y ∷ []) f ∙ sym (run_push at from i) ∙ ap (run at from) (sym n)
 
 low : (words : List ℕ) (place : ℕ) → place % 2 ≡ 0 → slice_index words (place / 2) % 65536 ≡ unit_in words place
 low words place even = grind (arith, nat_tests)
