@@ -1,5 +1,5 @@
-pub mod LineEnds
 pub mod FieldCuts
+pub mod Fronts
 pub mod PlainPhrases
 pub mod NearWalls
 pub mod SaidMoments

@@ -21,6 +21,7 @@ const MOST_DIGITS: usize = 20;
 
 const TOLD_COUNTS: usize = 3;
 
+#[tactic(auto, using(crate::proofs::FieldCuts::ten_to))]
 /// The number that at most 19 digits write: 64 bits hold it.
 fn short_number(digits: &[u8]) -> Option<u64>
     requires { length digits.now ≤ 19 }
@@ -36,6 +37,7 @@ fn short_number(digits: &[u8]) -> Option<u64>
     Some(value)
 }
 
+#[tactic(auto, using(crate::proofs::FieldCuts::ten_to))]
 /// The number that at most 20 digits write, which 64 bits need not hold.
 fn long_number(digits: &[u8]) -> Option<u128>
     requires { length digits.now ≤ 20 }

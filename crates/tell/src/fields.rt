@@ -22,6 +22,7 @@ pub struct Fields<'a> {
 // In bytes, without the LF.
 const LONGEST_LINE: usize = 1024;
 
+#[tactic(auto, using(crate::proofs::FieldCuts::without_cr_is))]
 pub fn without_cr(line: &[u8]) -> &[u8]
     ensures { result.now ≡ without_cr line.now }
 {
@@ -32,6 +33,7 @@ pub fn without_cr(line: &[u8]) -> &[u8]
 }
 
 // The bytes as text; most are ASCII, which is told at once.
+#[tactic(auto, using(crate::proofs::FieldCuts::texts))]
 #[inline(always)]
 fn text_of(bytes: &[u8]) -> Option<&str>
     ensures { MatchOption result (IsUtf8 bytes.now → ⊥)
@@ -44,6 +46,7 @@ fn text_of(bytes: &[u8]) -> Option<&str>
 }
 
 // The parts before and after the first tab.
+#[tactic(auto, using(crate::proofs::FieldCuts::cuts))]
 #[inline(always)]
 fn cut(text: &str) -> Option<(&str, &str)>
     ensures { MatchOption result (cut_of text.now ≡ None)
@@ -54,6 +57,7 @@ fn cut(text: &str) -> Option<(&str, &str)>
 }
 
 // The number that 1 to 12 digits write before the first tab, and how many they are.
+#[tactic(auto, using(crate::proofs::FieldCuts::ten_to))]
 #[inline(always)]
 fn number(bytes: &[u8]) -> Option<(u64, usize)>
     ensures value { MatchOption result (number_cut bytes.now ≡ None)
@@ -76,6 +80,7 @@ fn number(bytes: &[u8]) -> Option<(u64, usize)>
 }
 
 // A number before the first tab, perhaps with a minus sign, and what follows the tab.
+#[tactic(auto, using(crate::proofs::FieldCuts::lead_behind, crate::proofs::FieldCuts::base_cut_signed))]
 #[inline(never)]
 fn base(text: &str) -> Option<(i64, &str)>
     ensures { MatchOption result (base_cut text.now ≡ None)
@@ -94,6 +99,7 @@ fn base(text: &str) -> Option<(i64, &str)>
 }
 
 // A dialect before the first tab, and what follows the tab.
+#[tactic(auto, using(crate::proofs::FieldCuts::lead_behind))]
 #[inline(always)]
 fn dialect(text: &str) -> Option<(Dialect, &str)>
     ensures { MatchOption result (dialect_cut text.now ≡ None)
@@ -106,6 +112,7 @@ fn dialect(text: &str) -> Option<(Dialect, &str)>
     }
 }
 
+#[tactic(auto, using(crate::proofs::FieldCuts::text_fields_cuts))]
 #[inline(always)]
 fn text_fields(text: &str) -> Option<Fields<'_>>
     ensures { option_view result ≡ fields_of_text text.now }
@@ -121,6 +128,7 @@ fn text_fields(text: &str) -> Option<Fields<'_>>
     })
 }
 
+#[tactic(auto, using(crate::proofs::FieldCuts::texts), unfolding(crate::specs::Fields::fields_of))]
 /// The four fields of a line: zone, base, dialect and phrase, with a tab between two of them.
 ///
 /// The line has at most 1,024 bytes, and one CR at its end is dropped. The rest is UTF-8; the base is 1 to 12 digits,

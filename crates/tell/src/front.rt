@@ -29,6 +29,7 @@ fn write_byte(byte: u8, buffer: &mut [u8], end: usize) -> usize
 }
 
 // Writes a number before a place, and answers where it begins.
+#[tactic(auto, using(crate::proofs::Fronts::few))]
 #[inline(always)]
 fn write_number(number: i64, buffer: &mut [u8], end: usize) -> usize
     requires some { 20 ≤ end }
@@ -43,6 +44,20 @@ fn write_number(number: i64, buffer: &mut [u8], end: usize) -> usize
         return write_byte(b'-', buffer, at);
     }
     at
+}
+
+// Writes a count before a place, and answers where it begins.
+#[tactic(auto, using(crate::proofs::Fronts::few))]
+#[inline(always)]
+fn write_count(count: u32, buffer: &mut [u8], end: usize) -> usize
+    requires some { 10 ≤ end }
+    requires within { end ≤ length buffer.old }
+    ensures start { end ≤ result + 10 }
+    ensures before { result ≤ end }
+    ensures written { drop result buffer.new ≡ decimal count ++ drop end buffer.old }
+    ensures same { length buffer.new ≡ length buffer.old }
+{
+    write_digits(u64::from(count), buffer, end)
 }
 
 // The byte that tells on which side of the base a moment is.
@@ -68,7 +83,7 @@ fn write_front(moment: &Moment, ahead: bool, buffer: &mut [u8]) -> usize
     let at = write_byte(b'\t', buffer, at);
     let at = write_number(i64::from(moment.offset), buffer, at);
     let at = write_byte(b'\t', buffer, at);
-    let at = write_digits(u64::from(moment.nanos / 1000), buffer, at);
+    let at = write_count(moment.nanos / 1000, buffer, at);
     let at = write_byte(b'\t', buffer, at);
     write_number(moment.second, buffer, at)
 }
