@@ -1,7 +1,7 @@
 -- The zones that the bundle of a large input has.
-use Rattle.std.proofs.Common.{◌≡◌, ℕ, zero, suc, ◌+◌, ◌%◌, ◌≤◌, Bool, true, false, cond, List, [], ◌∷◌, ◌++◌, Option, Some, None, refl, sym, ap, ◌∙◌, arith, ℤ, pos, negsuc, ◌-ℤ◌, ◌+ℤ◌, ◌≤ℤ◌, ◌-◌, ◌==◌, nat_lt, length, rules, w32}
+use Rattle.std.proofs.Common.{◌≡◌, ℕ, zero, suc, ◌+◌, ◌%◌, ◌≤◌, Bool, true, false, cond, List, [], ◌∷◌, map, Option, Some, None, refl, sym, ap, ◌∙◌, arith, ℤ, pos, negsuc, ◌+ℤ◌, ◌≤ℤ◌, ◌-◌, ◌==◌, nat_lt, length, rules, w32}
 use Rattle.std.proofs.lemmas.Int.{ints}
-use Rattle.std.proofs.lemmas.Bool.{lt-ltb}
+use Rattle.std.proofs.lemmas.List.{map-append}
 use Rattle.std.proofs.lemmas.Bool.Decides.{nat_tests}
 use Rattle.std.specs.Prelude.{option_and_then}
 use Rattle.std.specs.Int.{cast_unsigned}
@@ -12,8 +12,7 @@ use Rattle.resb_tree.specs.declared.resource.Resource.TheViews.{rolls-Table, rol
 use Rattle.resb_tree.specs.declared.resource.Resource.TheVariants as r
 use Rattle.resb_tree.specs.Bodies.{when}
 use Rattle.resb_tree.specs.Header.{tree_of}
-use Rattle.timeline.specs.Zone.{fits_i32}
-use Rattle.timeline.specs.Zone.{RawRule}
+use Rattle.timeline.specs.Zone.{RawRule, fits_i32}
 use Rattle.zoneinfo64.specs.NamedZone.{NamedZone}
 use Rattle.zoneinfo64.specs.RuleDates.{as_i32}
 use Rattle.zoneinfo64.specs.RuleFields.{rule_named}
@@ -45,39 +44,27 @@ out-Integers v = ap out-Resource (sym (rolls-Integers v)) ∙ out-roll-Resource 
 abbrev no_rule : List ℕ → Option RawRule
 no_rule text = rule_named text []
 
-big_word : (n : ℕ) → n ≤ 43199 → nat_lt (4294967296 - suc n) 2147483648 ≡ false
-big_word n h = grind (arith, nat_tests)
-
-negative : (n : ℕ) → n ≤ 43199 → pos (4294967296 - suc n) -ℤ pos 4294967296 ≡ negsuc n
-negative n h = omega (arith, ints)
-
--- the word of a number is read as the number
 signed_read : (z : ℤ) → negsuc 43199 ≤ℤ z → z ≤ℤ pos 43200 → as_i32 (cast_unsigned w32 z) ≡ z
 signed_read (pos n) low high =
-    let small : nat_lt n 2147483648 ≡ true = lt-ltb n 2147483648 (omega (arith, ints)) in
+    let small : nat_lt n 2147483648 ≡ true = grind (arith, nat_tests, ints) in
     rw small refl
 signed_read (negsuc n) low high =
     let near : n ≤ 43199 = omega (arith, ints) in
-    let big : nat_lt (cast_unsigned w32 (negsuc n)) 2147483648 ≡ false = big_word n near in
-    rw big (negative n near)
-
-offset_low : (n : ℕ) → negsuc 43199 ≤ℤ load_offset n
-offset_low n = omega (arith, ints)
-
-offset_high : (n : ℕ) → load_offset n ≤ℤ pos 43200
-offset_high n = omega (arith, ints)
-
-offset_read : (n : ℕ) → as_i32 (cast_unsigned w32 (load_offset n)) ≡ load_offset n
-offset_read n = signed_read (load_offset n) (offset_low n) (offset_high n)
-
-no_more : (z : ℤ) → z +ℤ pos 0 ≡ z
-no_more z = omega (arith, ints)
+    let big : nat_lt (4294967296 - suc n) 2147483648 ≡ false = grind (arith, nat_tests) in
+    rw big (omega (arith, ints))
 
 small_fits : (z : ℤ) → negsuc 43199 ≤ℤ z → z ≤ℤ pos 43200 → fits_i32 z ≡ true
 small_fits z low high = search rules
 
+-- the word of an offset is read as the offset, which fits 32 bits
+offset_read : (n : ℕ) → as_i32 (cast_unsigned w32 (load_offset n)) ≡ load_offset n
+offset_read n = signed_read (load_offset n) (omega (arith, ints)) (omega (arith, ints))
+
 offset_fits : (n : ℕ) → fits_i32 (load_offset n) ≡ true
-offset_fits n = small_fits (load_offset n) (offset_low n) (offset_high n)
+offset_fits n = small_fits (load_offset n) (omega (arith, ints)) (omega (arith, ints))
+
+no_more : (z : ℤ) → z +ℤ pos 0 ≡ z
+no_more z = omega (arith, ints)
 
 zone_read : (n : ℕ) → plain_zone_of no_rule (zone_tree n) ≡ Some (fixed_zone (load_offset n))
 unfolding plain_zone_of type_offsets integers_at bytes_at wide_at zone_rule
@@ -89,32 +76,17 @@ one_named n = simp (out-Text, out-Table, zone_read n) refl
 
 -- ---- all zones
 
--- what f gives from a number on
-abbrev pub run : {A : Type 0} → (ℕ → A) → ℕ → ℕ → List A
-run f at zero = []
-run f at (suc n) = f at ∷ run f (at + 1) n
+-- what f gives for each of the numbers
+pub up_to-map : {A : Type 0} (f : ℕ → A) (n : ℕ) → up_to f n ≡ map f (up_to (λ k. k) n)
+up_to-map f zero = refl
+up_to-map f (suc n) = rw (map-append f (up_to (λ k. k) n) ((n + 1) ∷ []), up_to-map f n) refl
 
-all_named : (at n : ℕ) → named_zones no_rule (run zone_tree at n) (run name_tree at n) (run region_tree at n) ≡ Some (run load_zone at n)
-all_named at zero = refl
-all_named at (suc n) = rw (one_named at, all_named (at + 1) n) refl
-
-run-last : {A : Type 0} (f : ℕ → A) (at n : ℕ) → run f at (suc n) ≡ run f at n ++ f (at + n) ∷ []
-run-last f at zero =
-    let place : at + 0 ≡ at = omega arith in
-    rw place refl
-run-last f at (suc n) =
-    let place : at + 1 + n ≡ at + suc n = omega arith in
-    ap (λ l. f at ∷ l) (run-last f (at + 1) n ∙ rw place refl)
-
-pub up_to-run : {A : Type 0} (f : ℕ → A) (n : ℕ) → up_to f n ≡ run f 1 n
-up_to-run f zero = refl
-up_to-run f (suc n) =
-    let place : n + 1 ≡ 1 + n = omega arith in
-    ap (λ l. l ++ f (n + 1) ∷ []) (up_to-run f n) ∙ ap (λ (k : ℕ). run f 1 n ++ f k ∷ []) place ∙ sym (run-last f 1 n)
+all_named : (ks : List ℕ) → named_zones no_rule (map zone_tree ks) (map name_tree ks) (map region_tree ks) ≡ Some (map load_zone ks)
+all_named [] = refl
+all_named (k ∷ ks) = rw (one_named k, all_named ks) refl
 
 zones_named : (n : ℕ) → named_zones no_rule (up_to zone_tree n) (up_to name_tree n) (up_to region_tree n) ≡ Some (load_zones n)
-zones_named n =
-    rw (up_to-run zone_tree n, up_to-run name_tree n, up_to-run region_tree n, up_to-run load_zone n) (all_named 1 n)
+zones_named n = rw (up_to-map zone_tree n, up_to-map name_tree n, up_to-map region_tree n, up_to-map load_zone n) (all_named (up_to (λ k. k) n))
 
 -- ---- the bundle
 

@@ -49,30 +49,23 @@ stands_in_zones speech None zones status a b u v is stands = tt
 stands_in_zones speech (Some all) zones status a b u v is stands =
     subst (λ (o : Option (List NamedZone)). Stands (IsReplyWith speech o) status a b u v) (sym is) stands
 
--- the words of a command, by how many they are
-pub three_are : {T : Type 0} (bytes : T → List ℕ) (args : List T) (name lang : T) → 3 ≤ length args → length args < 4 → name ≡ get_or args 0 name → lang ≡ get_or args 1 lang
-    → command_of (map bytes args) ≡ three_words (bytes name) (bytes lang)
-three_are bytes [] name lang few many p q = absurd (omega arith)
-three_are bytes (a ∷ []) name lang few many p q = absurd (omega arith)
-three_are bytes (a ∷ b ∷ []) name lang few many p q = absurd (omega arith)
-three_are bytes (a ∷ b ∷ d ∷ []) name lang few many p q = rw (p, q) refl
-three_are bytes (a ∷ b ∷ d ∷ f ∷ args) name lang few many p q = absurd (omega arith)
+-- ---- the words of a command, by how many they are
 
-pub two_are : {T : Type 0} (bytes : T → List ℕ) (args : List T) (name word : T) → 2 ≤ length args → length args < 3 → name ≡ get_or args 0 name → word ≡ get_or args 1 word
-    → command_of (map bytes args) ≡ two_words (bytes name) (bytes word)
-two_are bytes [] name word few many p q = absurd (omega arith)
-two_are bytes (a ∷ []) name word few many p q = absurd (omega arith)
-two_are bytes (a ∷ b ∷ []) name word few many p q = rw (p, q) refl
-two_are bytes (a ∷ b ∷ d ∷ args) name word few many p q = absurd (omega arith)
+module _ {T : Type 0} (bytes : T → List ℕ) where
+  pub three_are : (args : List T) (name lang : T) → 3 ≤ length args → length args < 4
+      → name ≡ get_or args 0 name → lang ≡ get_or args 1 lang → command_of (map bytes args) ≡ three_words (bytes name) (bytes lang)
+  three_are (a ∷ b ∷ d ∷ []) name lang few many p q = rw (p, q) refl
+  three_are args name lang few many p q = absurd (omega arith)
 
-pub none_are_few : {T : Type 0} (bytes : T → List ℕ) (args : List T) → length args < 2 → command_of (map bytes args) ≡ None
-none_are_few bytes [] few = refl
-none_are_few bytes (a ∷ []) few = refl
-none_are_few bytes (a ∷ b ∷ args) few = absurd (omega arith)
+  pub two_are : (args : List T) (name word : T) → 2 ≤ length args → length args < 3
+      → name ≡ get_or args 0 name → word ≡ get_or args 1 word → command_of (map bytes args) ≡ two_words (bytes name) (bytes word)
+  two_are (a ∷ b ∷ []) name word few many p q = rw (p, q) refl
+  two_are args name word few many p q = absurd (omega arith)
 
-pub none_are_many : {T : Type 0} (bytes : T → List ℕ) (args : List T) → 3 < length args → command_of (map bytes args) ≡ None
-none_are_many bytes [] many = absurd (omega arith)
-none_are_many bytes (a ∷ []) many = absurd (omega arith)
-none_are_many bytes (a ∷ b ∷ []) many = absurd (omega arith)
-none_are_many bytes (a ∷ b ∷ d ∷ []) many = absurd (omega arith)
-none_are_many bytes (a ∷ b ∷ d ∷ f ∷ args) many = refl
+  pub none_are_few : (args : List T) → length args < 2 → command_of (map bytes args) ≡ None
+  none_are_few (a ∷ b ∷ args) few = absurd (omega arith)
+  none_are_few args few = refl
+
+  pub none_are_many : (args : List T) → 3 < length args → command_of (map bytes args) ≡ None
+  none_are_many (a ∷ b ∷ d ∷ f ∷ args) many = refl
+  none_are_many args many = absurd (omega arith)

@@ -1,5 +1,5 @@
 -- What a phrase is answered over moments of any kind, as it is said of seconds with their nanoseconds.
-use Rattle.std.proofs.Common.{◌≡◌, ℕ, false, List, Option, Some, None, IfSome, IfOk, Result, Ok, Err, ℤ, refl, sym, ap, subst}
+use Rattle.std.proofs.Common.{◌≡◌, ℕ, false, true, List, Option, Some, None, IfSome, IfOk, Result, Ok, Err, ℤ, refl, sym, ap, subst}
 use Rattle.interim.specs.declared.errors.DateError.{DateError}
 use Rattle.interim.specs.declared.errors.DateError.TheVariants as errors
 use Rattle.interim.specs.declared.types.DateSpec.{DateSpec}
@@ -17,20 +17,29 @@ use Rattle.tell.specs.Moments.{Says}
 use Rattle.tell.specs.declared.moment.Moment.{Moment}
 use Rattle.tell.specs.Inside.MomentView.{ResolvesTo, moment_view}
 
+-- the refusal of parts that have no meaning
+abbrev pub missing : Option DateSpec → DateError
+missing (Some date) = errors.MissingDate
+missing None = errors.MissingTime
+
+-- is the one that rests on that
+pub refused_as : (e : DateError) (date : Option DateSpec) (P : Type 0) → IsRefusedAs false e date P → (e ≡ missing date) × P
+refused_as errors.MissingDate (Some date) P h = (refl, h)
+refused_as errors.MissingTime None P h = (refl, h)
+refused_as errors.Memory date P h = let never : false ≡ true = h in cc
+refused_as e date P h = absurd h
+
+refused_for : (date : Option DateSpec) (P : Type 0) → P → IsRefusedAs false (missing date) date P
+refused_for (Some date) P h = h
+refused_for None P h = h
+
 -- a refusal stays where what it rests on is another way to say the same
 refused_on : (e : DateError) (date : Option DateSpec) (P Q : Type 0) → (P → Q) → IsRefusedAs false e date P → IsRefusedAs false e date Q
-refused_on errors.MissingDate (Some date) P Q f h = f h
-refused_on errors.MissingDate None P Q f h = h
-refused_on errors.MissingTime None P Q f h = f h
-refused_on errors.MissingTime (Some date) P Q f h = h
-refused_on errors.Memory date P Q f h = h
-refused_on (errors.ExpectedToken expected span) date P Q f h = h
-refused_on (errors.EndOfText expected) date P Q f h = h
-refused_on errors.UnexpectedDate date P Q f h = h
-refused_on errors.UnexpectedAbsoluteDate date P Q f h = h
-refused_on errors.UnexpectedTime date P Q f h = h
+refused_on e date P Q f h =
+    let (same, p) = refused_as e date P h in
+    rw same (refused_for date Q (f p))
 
-abbrev Meanings : Type 1
+abbrev pub Meanings : Type 1
 Meanings = Option DateSpec → Option TimeSpec → Option (ℤ × ℕ) → Type 0
 
 pub said_err : {T U : Type 0} (view : T → ℤ × ℕ) (view' : U → ℤ × ℕ) (parts : Result DateTimeSpec DateError) (M N : Meanings) (e : DateError)

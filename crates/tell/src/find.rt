@@ -9,7 +9,7 @@ ghost use Rattle.zoneinfo64.specs.ZoneView.{plain_zone};
 ghost use Rattle.std.specs.Prelude.{◌↔◌, IsOk, IfErr};
 ghost use Rattle.tell.specs.Moments.{IsBase};
 ghost use Rattle.tell.specs.Inside.FieldsView.{fields_view};
-ghost use Rattle.tell.specs.Inside.MomentView.{Finds, IsInCalendar, refusal};
+ghost use Rattle.tell.specs.Inside.MomentView.{Finds, FindsFrom, IsInCalendar, refusal};
 
 use crate::below::laws_below;
 use crate::fields::Fields;
@@ -50,20 +50,15 @@ pub fn checked<'a>(zones: &'a ZoneInfo64, name: &str) -> Option<Result<Zone<'a>,
     }
 }
 
-// The moment that the phrase means in a zone, or the first of the refusals that holds.
-fn find_in(zone: Result<Zone<'_>, ZoneFault>, fields: &Fields<'_>) -> Result<Moment, TellError>
-    ensures found { (zones : List NamedZone)
-        → IsChecked zones (fields_view fields.now).zone (Some zone.entry)
-        → Finds zones (fields_view fields.now) result }
+// The moment that the phrase means in a lawful zone, or the first of the refusals that holds.
+fn find_in(zone: Zone<'_>, fields: &Fields<'_>) -> Result<Moment, TellError>
+    ensures found { IfSome (plain_zone zone.entry)
+        (λ z. IsLawful z → FindsFrom z (fields_view fields.now) result) }
     ensures bound { IfOk result IsInCalendar }
     ensures base { IfOk result (λ m. IsBase fields.now.base) }
     ensures err { IfErr result (λ e. IsSome (refusal e)) }
 {
     laws_below();
-    let zone = match zone {
-        Ok(zone) => zone,
-        Err(fault) => return Err(TellError::Unlawful(fault)),
-    };
     if !is_base(fields.base) {
         return Err(TellError::BadBase);
     }
@@ -85,8 +80,11 @@ pub fn find(
     ensures base { IfOk result (λ m. IsBase fields.now.base) }
     ensures err { IfErr result (λ e. IsSome (refusal e)) }
 {
+    let Some(zone) = zone else {
+        return Err(TellError::UnknownZone);
+    };
     match zone {
-        Some(zone) => find_in(zone, fields),
-        None => Err(TellError::UnknownZone),
+        Ok(zone) => find_in(zone, fields),
+        Err(fault) => Err(TellError::Unlawful(fault)),
     }
 }

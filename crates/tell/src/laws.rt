@@ -50,7 +50,7 @@ pub fn one_ago_answer()
 pub fn one_ago_report()
     ensures { OneAgoReport }
 {
-    one_text();
+    one_ago_answer();
 }
 
 /// What is told of a distance can be read back: from one second to less than 10,000 years the words

@@ -1,10 +1,13 @@
 //! How far a moment is from a base.
-ghost use Rattle.std.specs.Prelude.{◌≡◌, ◌<◌, int_lt, pos, unsigned_abs, ◌+ℤ◌, ◌-ℤ◌, ◌*ℤ◌, ◌<ℤ◌, ◌≤ℤ◌, ◌+◌, ◌*◌};
+ghost use Rattle.std.specs.Prelude.{◌≡◌, ◌<◌, ℤ, int_lt, pos, unsigned_abs, ◌+ℤ◌, ◌-ℤ◌, ◌*ℤ◌, ◌<ℤ◌, ◌≤ℤ◌, ◌+◌, ◌*◌};
 ghost use Rattle.std.specs.Duration.{as_nanos};
 ghost use Rattle.civil.specs.Clock.{IsWallSecond};
 ghost use Rattle.tell.specs.Moments.{IsBase};
 ghost use Rattle.tell.specs.Tales.{lead};
+ghost use Rattle.tell.specs.Inside.MomentView.{IsInCalendar};
 
+use crate::fields::Fields;
+use crate::moment::Moment;
 use std::time::Duration;
 
 /// A distance from a base, and on which side of it.
@@ -21,8 +24,7 @@ const NANOS: u32 = 1_000_000_000;
 fn carried(second: i64, nanos: u32) -> (i64, u32)
     requires second { IsWallSecond second }
     requires nanos { nanos < 2000000000 }
-    ensures value { pos 1000000000 *ℤ result.0 +ℤ pos result.1
-        ≡ pos 1000000000 *ℤ second +ℤ pos nanos }
+    ensures lead { (base : ℤ) → lead base result.0 result.1 ≡ lead base second nanos }
     ensures fraction { result.1 < 1000000000 }
     ensures low { second ≤ℤ result.0 }
     ensures high { result.0 ≤ℤ (second +ℤ pos 1) }
@@ -77,18 +79,19 @@ fn back(base: i64, second: i64, nanos: u32) -> Lead
     }
 }
 
-/// How far the moment at a second and its nanoseconds is from a base.
-pub fn lead_from(base: i64, second: i64, nanos: u32) -> Lead
-    requires base { IsBase base }
-    requires second { IsWallSecond second }
-    requires nanos { nanos < 2000000000 }
-    ensures ahead { result.ahead ≡ int_lt (pos 0) (lead base second nanos) }
-    ensures distance { as_nanos result.distance ≡ unsigned_abs (lead base second nanos) }
+/// How far a moment is from the base of a line.
+pub fn lead_from(fields: &Fields<'_>, moment: &Moment) -> Lead
+    requires base { IsBase fields.now.base }
+    requires moment { IsInCalendar moment.now }
+    ensures ahead { result.ahead
+        ≡ int_lt (pos 0) (lead fields.now.base moment.now.second moment.now.nanos) }
+    ensures distance { as_nanos result.distance
+        ≡ unsigned_abs (lead fields.now.base moment.now.second moment.now.nanos) }
 {
-    let (second, nanos) = carried(second, nanos);
-    if base <= second {
-        forward(base, second, nanos)
+    let (second, nanos) = carried(moment.second, moment.nanos);
+    if fields.base <= second {
+        forward(fields.base, second, nanos)
     } else {
-        back(base, second, nanos)
+        back(fields.base, second, nanos)
     }
 }

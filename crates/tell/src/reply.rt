@@ -11,7 +11,7 @@ ghost use Rattle.tell.specs.Voices.{voices_of};
 ghost use Rattle.tell.specs.Inside.MomentView.{IsInCalendar, refusal};
 ghost use Rattle.tell.specs.Inside.ReplyParts.{IsMomentText, IsAnswer};
 
-use crate::fields::split_fields;
+use crate::fields::{Fields, split_fields};
 use crate::find::find;
 use crate::front::push_front;
 use crate::lead::lead_from;
@@ -36,15 +36,16 @@ fn push_count(out: &mut String, count: u64) -> Result<(), AllocError>
 fn push_moment(
     out: &mut String,
     teller: &Teller,
-    base: i64,
+    fields: &Fields<'_>,
     moment: &Moment,
 ) -> Result<(), AllocError>
-    requires base { IsBase base }
+    requires base { IsBase fields.now.base }
     requires inside { IsInCalendar moment.now }
-    ensures { OnOk result (Adds (IsMomentText (voices_of (any_speech teller.now)) base moment.now)
+    ensures { OnOk result
+        (Adds (IsMomentText (voices_of (any_speech teller.now)) fields.now.base moment.now)
         (string_bytes out.old) (string_bytes out.new)) }
 {
-    let lead = lead_from(base, moment.second, moment.nanos);
+    let lead = lead_from(fields, moment);
     push_front(out, moment, lead.ahead)?;
     teller.push_told(out, lead)?;
     Ok(())
@@ -91,7 +92,7 @@ fn push_answer(
         return Ok(());
     };
     match find(zones.get(fields.zone), &fields) {
-        Ok(moment) => push_moment(out, teller, fields.base, &moment)?,
+        Ok(moment) => push_moment(out, teller, &fields, &moment)?,
         Err(error) => push_refusal(out, error)?,
     }
     Ok(())

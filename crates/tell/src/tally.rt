@@ -1,5 +1,5 @@
 //! What answers to lines of dates come to.
-ghost use Rattle.std.specs.Prelude.{◌≡◌, ◌+◌, ◌<◌, ◌^◌, [], if◌then◌else◌};
+ghost use Rattle.std.specs.Prelude.{◌≡◌, ◌+◌, ◌<◌, ◌^◌, ℕ, List, [], ◌∷◌};
 ghost use Rattle.streams.specs.Lines.{ended};
 ghost use Rattle.tell.specs.Load.{is_refusal, moments_in, refusals_in, last_moment, before_tab};
 
@@ -26,12 +26,15 @@ fn is_refusal(answer: &[u8]) -> bool
 fn with<'a>(tally: Tally<'a>, answer: &'a [u8]) -> Tally<'a>
     requires moments { tally.moments + 1 < 2 ^ 64 }
     requires refusals { tally.refusals + 1 < 2 ^ 64 }
-    ensures moments { result.moments
-        ≡ (if is_refusal answer.now then tally.entry.moments else tally.entry.moments + 1) }
-    ensures refusals { result.refusals
-        ≡ (if is_refusal answer.now then tally.entry.refusals + 1 else tally.entry.refusals) }
-    ensures last { result.last.now
-        ≡ (if is_refusal answer.now then tally.entry.last.now else answer.now) }
+    ensures moments { (rest : List (List ℕ))
+        → result.moments + moments_in rest ≡ tally.entry.moments + moments_in (answer.now ∷ rest) }
+    ensures refusals { (rest : List (List ℕ))
+        → result.refusals + refusals_in rest
+        ≡ tally.entry.refusals + refusals_in (answer.now ∷ rest) }
+    ensures last { (rest : List (List ℕ))
+        → last_moment result.last.now rest ≡ last_moment tally.entry.last.now (answer.now ∷ rest) }
+    ensures one { result.moments + result.refusals
+        ≡ tally.entry.moments + tally.entry.refusals + 1 }
 {
     let mut more = tally;
     if is_refusal(answer) {
@@ -43,6 +46,7 @@ fn with<'a>(tally: Tally<'a>, answer: &'a [u8]) -> Tally<'a>
     more
 }
 
+#[tactic(auto, using(crate::proofs::Tallies::ended_is, crate::proofs::FieldCuts::place_is))]
 /// The tally of answers, each of which ends with an LF.
 pub fn count(answers: &[u8]) -> Tally<'_>
     ensures moments { result.moments ≡ moments_in (ended answers.now) }
@@ -62,6 +66,7 @@ pub fn count(answers: &[u8]) -> Tally<'_>
     tally
 }
 
+#[tactic(auto, using(crate::proofs::Tallies::before_tab_is, crate::proofs::FieldCuts::place_is, std::proofs::lemmas::List::take_all))]
 /// What stands before the first tab.
 pub fn before_tab(answer: &[u8]) -> &[u8]
     ensures { result.now ≡ before_tab answer.now }

@@ -14,6 +14,7 @@ ghost use Rattle.tell.specs.Moments.{IsBase};
 ghost use Rattle.tell.specs.Replies.{IsReplyIn};
 ghost use Rattle.tell.specs.Tales.{IsTale};
 ghost use Rattle.tell.specs.Tells.{Tells, TellsBundle, tale_of};
+ghost use Rattle.tell.specs.Inside.FieldsView.{fields_view};
 ghost use Rattle.tell.specs.Inside.MomentView.{IsInCalendar};
 
 use crate::fields::Fields;
@@ -95,15 +96,15 @@ fn words<L: Language>(
     }
 }
 
-// The offset of a zone with its verdict at a second, where the zone is lawful.
-fn offset_there(zone: Option<Result<Zone<'_>, ZoneFault>>, second: i64) -> Offset
+// The offset of a zone with its verdict at a moment, where the zone is lawful.
+fn offset_there(zone: Option<Result<Zone<'_>, ZoneFault>>, moment: &Moment) -> Offset
     ensures { (zones : List NamedZone) (name : List ℕ) (z : PlainZone)
         → IsChecked zones name zone.entry
-        → named zones name ≡ Some z → IsLawful z → result ≡ offset_at z second }
+        → named zones name ≡ Some z → IsLawful z → result ≡ offset_at z moment.now.second }
 {
     one_verdict();
     match zone {
-        Some(Ok(zone)) => zone.for_timestamp(second),
+        Some(Ok(zone)) => zone.for_timestamp(moment.second),
         _ => Offset::default(),
     }
 }
@@ -139,21 +140,45 @@ fn with_words(moment: Moment, offset: Offset, ahead: bool, text: String) -> Told
 // How a moment is told from a base.
 fn tell_moment<L: Language>(
     alloc: Global,
-    base: i64,
+    fields: &Fields<'_>,
     moment: Moment,
     offset: Offset,
     past: &Formatter<L>,
     ahead: &Formatter<L>,
 ) -> Result<Told, AllocError>
-    requires base { IsBase base }
+    requires base { IsBase fields.now.base }
     requires inside { IsInCalendar moment }
     ensures { (z : PlainZone) → offset ≡ offset_at z moment.second → IfOk result (λ told.
-        IsTale z (voices_by L.speech past.now ahead.now) base moment.second moment.nanos
+        IsTale z (voices_by L.speech past.now ahead.now) fields.now.base moment.second moment.nanos
         (tale_of told)) }
 {
-    let lead = lead_from(base, moment.second, moment.nanos);
+    let lead = lead_from(fields, &moment);
     let text = words(alloc, lead, past, ahead)?;
     Ok(with_words(moment, offset, lead.ahead, text))
+}
+
+// Tells the phrase of a line.
+fn tell_fields<L: Language>(
+    alloc: Global,
+    info: &ZoneInfo64,
+    fields: &Fields<'_>,
+    past: &Formatter<L>,
+    ahead: &Formatter<L>,
+) -> Result<Told, TellError>
+    ensures { Tells (IsReplyIn (voices_by L.speech past.now ahead.now) info.now
+        (fields_view fields.now)) result }
+{
+    let checked = checked(info, fields.zone);
+    match find(checked, fields) {
+        Ok(moment) => {
+            let offset = offset_there(checked, &moment);
+            match tell_moment(alloc, fields, moment, offset, past, ahead) {
+                Ok(told) => Ok(told),
+                Err(AllocError) => Err(TellError::Memory),
+            }
+        }
+        Err(error) => Err(error),
+    }
 }
 
 /// Tells a phrase in a zone of a bundle that was read: the moment that it means from the base, in seconds since
@@ -181,17 +206,7 @@ pub fn tell_in<L: Language>(
         dialect,
         phrase,
     };
-    let checked = checked(info, zone);
-    match find(checked, &fields) {
-        Ok(moment) => {
-            let offset = offset_there(checked, moment.second);
-            match tell_moment(alloc, base, moment, offset, past, ahead) {
-                Ok(told) => Ok(told),
-                Err(AllocError) => Err(TellError::Memory),
-            }
-        }
-        Err(error) => Err(error),
-    }
+    tell_fields(alloc, info, &fields, past, ahead)
 }
 
 /// The same over the words of a bundle, low half first: `Bundle` exactly where they are refused as `Tree` or `Rules`.

@@ -1,21 +1,20 @@
 -- The moment of the code as the definitions speak of it, and what is found of one.
-use Rattle.std.specs.Prelude.{◌≡◌, ℕ, ◌/◌, ◌<◌, List, Option, Some, None, Result, Ok, Err, ℤ}
+use Rattle.std.specs.Prelude.{◌≡◌, ℕ, ◌<◌, List, Option, Some, None, Result, Ok, Err, MatchOption, ℤ}
 use Rattle.civil.specs.Clock.{IsWallSecond}
 use Rattle.timeline.specs.Zone.{PlainZone}
 use Rattle.zoneinfo64.specs.NamedZone.{NamedZone, named}
 use Rattle.timeline.specs.Laws.{IsLawful}
-use Rattle.timeline.specs.Placement.{IsPlaced}
 use Rattle.timeline.specs.ShownWalls.{seconds_at}
 use Rattle.interim.specs.declared.errors.DateError.{DateError}
 use Rattle.interim.specs.declared.types.Dialect.{Dialect}
-use Rattle.interim.specs.PlainForm.{IsPlainForm}
 use Rattle.tell.specs.declared.moment.Moment.{Moment}
 use Rattle.tell.specs.declared.told.TellError.{TellError}
 use Rattle.tell.specs.declared.told.TellError.TheVariants as error
 use Rattle.tell.specs.Fields.{LineFields}
-use Rattle.tell.specs.Moments.{IsBase, Says}
+use Rattle.tell.specs.Moments.{Says}
 use Rattle.tell.specs.Voices.{Voices}
-use Rattle.tell.specs.Replies.{Reply, UnknownZone, BadBase, Unlawful, Fault, IsReplyIn}
+use Rattle.tell.specs.Replies.{Reply, UnknownZone, BadBase, Unlawful, Fault, Moment as Told, IsReplyFrom, IsReplyIn}
+use Rattle.tell.specs.Tales.{Tale, IsTale}
 
 -- a moment without its offset
 abbrev pub moment_view : Moment → ℤ × ℕ
@@ -31,15 +30,6 @@ abbrev pub ResolvesTo : PlainZone → Dialect → ℤ → List ℕ → Result Mo
 ResolvesTo z dialect base phrase (Ok m) = IsMomentIn z dialect base phrase m
 ResolvesTo z dialect base phrase (Err e) = Says z dialect base phrase (Err e)
 
--- of the fields of a line the moment is found, in the lawful zone of that name
-pub record IsFound (zones : List NamedZone) (f : LineFields) (m : Moment) : Type 0 where
-  pub zone : PlainZone
-  pub has_name : named zones f.zone ≡ Some zone
-  pub lawful : IsLawful zone
-  pub base : IsBase f.base
-  pub moment : IsMomentIn zone f.dialect f.base f.phrase m
-  pub plain : (w : ℤ) → IsPlainForm f.dialect f.phrase w → IsPlaced zone w m.second × (m.nanos / 1000 ≡ 0)
-
 -- what is replied in place of a moment
 abbrev pub refusal : TellError → Option Reply
 refusal error.Memory = None
@@ -49,10 +39,17 @@ refusal (error.Unlawful fault) = Some (Unlawful fault)
 refusal error.BadBase = Some BadBase
 refusal (error.Phrase e) = Some (Fault e)
 
--- the moment is found, or this is replied in its place, however distances are told
+-- in a lawful zone: the moment is told, or this is replied in its place, however distances are told
+abbrev pub FindsFrom : PlainZone → LineFields → Result Moment TellError → Type 0
+FindsFrom z f (Ok m) = (m.offset ≡ seconds_at z m.second)
+    × ((voices : Voices) (t : Tale) → IsTale z voices f.base m.second m.nanos t → IsReplyFrom z voices f (Told t))
+FindsFrom z f (Err e) = MatchOption (refusal e) ⊥ (λ reply. (voices : Voices) → IsReplyFrom z voices f reply)
+
+-- and in the zones of a bundle
 abbrev pub Finds : List NamedZone → LineFields → Result Moment TellError → Type 0
-Finds zones f (Ok m) = IsFound zones f m
-Finds zones f (Err e) = (reply : Reply) × (refusal e ≡ Some reply) × ((voices : Voices) → IsReplyIn voices zones f reply)
+Finds zones f (Ok m) = (z : PlainZone) × (named zones f.zone ≡ Some z) × IsLawful z × (m.offset ≡ seconds_at z m.second)
+    × ((voices : Voices) (t : Tale) → IsTale z voices f.base m.second m.nanos t → IsReplyIn voices zones f (Told t))
+Finds zones f (Err e) = MatchOption (refusal e) ⊥ (λ reply. (voices : Voices) → IsReplyIn voices zones f reply)
 
 -- the calendar has the moment's second
 pub record IsInCalendar (m : Moment) : Type 0 where

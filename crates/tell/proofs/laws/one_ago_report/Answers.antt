@@ -4,4 +4,4 @@ use Rattle.tell.proofs.OneAnswer.{one_ago_reply}
 use Rattle.tell.proofs.laws.one_ago_report.Goals as goal
 
 pub returns : goal.returns
-returns c = λ speech. one_report (IsAgoReply speech) (one_ago_reply c.one_text.ensures speech)
+returns c = λ speech. one_report (IsAgoReply speech) (one_ago_reply c.one_ago_answer.ensures speech)
