@@ -6,8 +6,8 @@ mod ChainWalls
 mod TimelineEntries
 mod TimelineRises
 mod TimelineYears
-pub mod WallSeconds
-pub mod SmallOffsets
+mod WallSeconds
+mod SmallOffsets
 mod TablePlaces
 mod Candidates
 mod WallAnswers
@@ -29,7 +29,7 @@ mod YearsApart
 mod Probes
 mod TableEntries
 mod TableRanges
-pub mod OffsetChanges
+mod OffsetChanges
 mod OneHolds
 mod Verdicts
 mod ZoneExamples

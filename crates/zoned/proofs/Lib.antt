@@ -1,3 +1,3 @@
-pub mod OffsetTexts
-pub mod OneOffset
+mod OffsetTexts
+mod OneOffset
 pub mod PlacedSeconds

@@ -1,24 +1,24 @@
-pub mod CheckedPlaces
-pub mod Names
-pub mod TextOrder
-pub mod NameOrder
-pub mod AsciiNames
-pub mod FieldParts
-pub mod Fronts
-pub mod Pairs
-pub mod Zones
-pub mod Roots
-pub mod Rising
-pub mod Regions
-pub mod Bundles
-pub mod RuleKeys
-pub mod Tables
-pub mod UsedRules
-pub mod Wides
-pub mod RuleWords
-pub mod Resolved
-pub mod Units
-pub mod ZoneReads
-pub mod ShownOnce
-pub mod ZoneCivil
-pub mod OffsetExamples
+mod CheckedPlaces
+mod Names
+mod TextOrder
+mod NameOrder
+mod AsciiNames
+mod FieldParts
+mod Fronts
+mod Pairs
+mod Zones
+mod Roots
+mod Rising
+mod Regions
+mod Bundles
+mod RuleKeys
+mod Tables
+mod UsedRules
+mod Wides
+mod RuleWords
+mod Resolved
+mod Units
+mod ZoneReads
+mod ShownOnce
+mod ZoneCivil
+mod OffsetExamples

@@ -1,5 +1,6 @@
 -- What serves private contracts alone: no reader needs it to know what the crate does.
 pub mod DateWords
+pub mod LawsBelow
 pub mod RuleView
 pub mod Spellings
 pub mod Steps

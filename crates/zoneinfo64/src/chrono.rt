@@ -5,6 +5,7 @@ ghost use Rattle.zoned.specs.Moment.{seconds_east};
 ghost use Rattle.zoneinfo64.specs.OffsetView.{offset_told, zone_told, seconds_told, cut_to_day, civil_of};
 ghost use Rattle.zoneinfo64.specs.ZoneOffsets.{zone_off, zone_local, IsSound};
 
+use crate::below::laws_below;
 use crate::zone::Zone;
 use civil::{NaiveDate, NaiveDateTime};
 use timeline::{Offset, PossibleOffset, UtcOffset};
@@ -101,6 +102,7 @@ fn at_wall<'a>(zone: &Zone<'a>, wall: i64) -> CivilOffset<ChronoOffset<'a>>
     ensures local { IsSound zone.now
         → zone_local zone.now wall ≡ mapped_of (civil_map seconds_told result) }
 {
+    laws_below();
     let answer = zone.offsets_of_wall(wall);
     named(zone, &answer)
 }
@@ -110,6 +112,7 @@ fn at_second<'a>(zone: &Zone<'a>, second: i64) -> ChronoOffset<'a>
     ensures zone { zone_told result ≡ zone.now }
     ensures value { IsSound zone.now → seconds_told result ≡ zone_off zone.now second }
 {
+    laws_below();
     let offset = zone.for_timestamp(second);
     told(zone, &offset)
 }

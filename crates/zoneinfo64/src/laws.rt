@@ -3,6 +3,8 @@
 
 ghost use Rattle.zoneinfo64.specs.Promises.{TextKeepsOrder, NamesKeepOrder, ZonesPlaceAlike};
 
+use crate::below::laws_below;
+
 /// UTF-8 keeps the order of characters.
 pub fn text_keeps_order()
     ensures { TextKeepsOrder }
@@ -17,4 +19,6 @@ pub fn names_keep_order()
 /// their gaps are the same, and the offset just before a gap's second is the one before its entry.
 pub fn zones_place_alike()
     ensures { ZonesPlaceAlike }
-{}
+{
+    laws_below();
+}

@@ -1,6 +1,7 @@
 //! Time zones of a `zoneinfo64` resource bundle.
 #![tactic(auto)]
 
+mod below;
 mod bundle;
 mod checked;
 mod chrono;

@@ -6,4 +6,4 @@ use Rattle.zoneinfo64.proofs.chrono.at_second.Goals as goal
 pub returns-clause-value : goal.returns-clause-value
 returns-clause-value c = λ sound.
     let second = to_z-of_z w64 c.args.second c.ranges.second in
-    ap cut_seconds c.told.ensures.offset ∙ told_in _ _ _ c.args.zone.now.in_place (rw second at c.for_timestamp-offset.ensures) sound
+    ap cut_seconds c.told.ensures.offset ∙ told_in c.laws_below.ensures _ _ _ c.args.zone.now.in_place (rw second at c.for_timestamp-offset.ensures) sound
