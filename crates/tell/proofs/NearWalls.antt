@@ -1,24 +1,43 @@
--- A wall second of the calendar that is the sought one, where that is of the calendar.
-use Rattle.std.proofs.Common.{◌≡◌, inl, inr, true, false, ℤ, pos, refl, sym, ◌∙◌, arith}
-use Rattle.std.proofs.lemmas.Bool.{cases_Bool}
+-- Wall seconds of the calendar, and those outside.
+use Rattle.std.proofs.Common.{◌≡◌, inl, inr, true, false, ℤ, pos, refl, arith}
+use Rattle.std.proofs.lemmas.Bool.{and_parts, cases_Bool}
 use Rattle.civil.specs.Clock.{IsWallSecond, wall_day}
 use Rattle.jiff_core.proofs.SignedLemmas.{signed_arith}
-use Rattle.civil.proofs.WallParts.{wall_parts}
 use Rattle.interim.specs.Refusal.{is_within, civil_days, civil_seconds}
-use Rattle.interim.proofs.Stretches.{is_within-of, is_within-tells}
 
+pub second_inside : (s : ℤ) → IsWallSecond s → is_within civil_seconds s ≡ true
+second_inside s is = grind (arith, signed_arith, is.first, is.last)
+
+second_within : (s : ℤ) → is_within civil_seconds s ≡ true → IsWallSecond s
+second_within s holds =
+    let parts = and_parts _ _ holds in
+    record { first = omega (arith, signed_arith, parts.0); last = omega (arith, signed_arith, parts.1) }
+
+pub second_outside : (s : ℤ) → (IsWallSecond s → ⊥) → is_within civil_seconds s ≡ false
+second_outside s never = elim (cases_Bool (is_within civil_seconds s)) [
+  | inl holds ↦ absurd (never (second_within s holds))
+  | inr fails ↦ fails
+]
+
+-- the wall second that is sought, where it is one of the calendar, and else another
 pub near_wall : (s : ℤ) → (w : ℤ) × IsWallSecond w × (IsWallSecond s → s ≡ w)
-near_wall s =
-    elim (cases_Bool (is_within civil_seconds s)) [
-      | inl holds ↦ (let ends = is_within-tells civil_seconds s holds in (s, record { first = ends.0; last = ends.1 }, λ _. refl))
-      | inr fails ↦ (
-        pos 0,
-        record { first = omega (arith, signed_arith); last = omega (arith, signed_arith) },
-        λ is. let never : false ≡ true = sym fails ∙ is_within-of civil_seconds s is.first is.last in cc,
-      )
-    ]
+near_wall s = elim (cases_Bool (is_within civil_seconds s)) [
+  | inl holds ↦ (s, second_within s holds, λ _. refl)
+  | inr fails ↦ (
+    pos 0,
+    record { first = omega (arith, signed_arith); last = omega (arith, signed_arith) },
+    λ is. let holds = second_inside s is in cc,
+  )
+]
 
+-- their days are those of the calendar
 pub day_inside : (w : ℤ) → IsWallSecond w → is_within civil_days (wall_day w) ≡ true
-day_inside w is =
-    let parts = wall_parts w in
-    is_within-of civil_days (wall_day w) (omega (arith, signed_arith, parts.0, parts.1, is.first, is.last)) (omega (arith, signed_arith, parts.0, parts.1, is.first, is.last))
+unfolding wall_day
+day_inside w is = grind (arith, signed_arith, is.first, is.last)
+
+pub no_wall_day : (w : ℤ) → (IsWallSecond w → ⊥) → is_within civil_days (wall_day w) ≡ false
+unfolding wall_day
+no_wall_day w never = elim (cases_Bool (is_within civil_days (wall_day w))) [
+  | inl holds ↦ (let parts = and_parts _ _ holds in absurd (never (record { first = omega (arith, signed_arith, parts.0); last = omega (arith, signed_arith, parts.1) })))
+  | inr fails ↦ fails
+]

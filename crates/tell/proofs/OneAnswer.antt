@@ -20,7 +20,7 @@ use Rattle.interim.specs.Meaning.{MeansIn}
 use Rattle.interim.specs.MeaningLaws.{OneMeaning}
 use Rattle.interim.specs.Refusal.{AnswersPhrase, civil_days, civil_seconds}
 use Rattle.interim.specs.Tokens.{phrase_tokens}
-use Rattle.streams.specs.Report.{OneReply}
+use Rattle.streams.specs.Report.{OneReply, OneReport}
 use Rattle.tell.specs.Fields.{LineFields, fields_of}
 use Rattle.tell.specs.Moments.{IsBase, Says}
 use Rattle.tell.specs.Voices.{Voices, voice_for, voices_of, IsToldBy}
@@ -162,3 +162,13 @@ pub one_ago_reply : OneAgoAnswer → (speech : Speech) → OneReply (IsAgoReply 
 one_ago_reply one speech line a b (x, is, e) (y, is', e') =
     let (answer, said, once) = one speech line in
     e ∙ ap (λ (l : List ℕ). l ++ 10 ∷ []) (once x is ∙ sym (once y is')) ∙ sym e'
+
+-- ---- reports
+
+-- replies that are the same make the same report
+pub one_report : (reply : List ℕ → List ℕ → Type 0) → OneReply reply → OneReport reply
+one_report reply once [] a b is is' = is ∙ sym is'
+one_report reply once (line ∷ lines) a b is is' =
+    let text : is.0 ≡ is'.0 = once line is.0 is'.0 is.2 is'.2 in
+    let others : is.1 ≡ is'.1 = one_report reply once lines is.1 is'.1 is.3 is'.3 in
+    cc (is.4, is'.4)

@@ -10,6 +10,7 @@ ghost use Rattle.tell.specs.LoadZones.{up_to, zone_name, load_offset};
 ghost use Rattle.tell.specs.Load.{load_phrase, load_line, load_input};
 ghost use Rattle.tell.specs.Inside.LoadTree.{zone_tree, name_tree, region_tree, load_tree};
 
+use resb::laws::walks_meet_keys;
 use resb::{Draft, ResbError};
 use std::alloc::{AllocError, Global};
 
@@ -72,6 +73,7 @@ fn name_units(number: u32) -> [u16; 10]
 fn begun(alloc: Global, count: u32) -> Result<Draft<'static>, ResbError>
     ensures { IfOk result (λ draft. Holds draft (key_pool (load_tree count)) []) }
 {
+    walks_meet_keys();
     if count == 0 {
         return Draft::new(alloc, &[b"Zones", b"Names", b"Rules", b"Regions"]);
     }

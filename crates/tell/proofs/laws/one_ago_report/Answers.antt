@@ -1,6 +1,5 @@
-use Rattle.streams.proofs.ServeLemmas.{one_report}
 use Rattle.tell.specs.Ago.{IsAgoReply}
-use Rattle.tell.proofs.OneAnswer.{one_ago_reply}
+use Rattle.tell.proofs.OneAnswer.{one_ago_reply, one_report}
 use Rattle.tell.proofs.laws.one_ago_report.Goals as goal
 
 pub returns : goal.returns

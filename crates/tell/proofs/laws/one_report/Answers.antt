@@ -1,5 +1,5 @@
-use Rattle.streams.proofs.ServeLemmas.{one_report}
 use Rattle.tell.specs.ReplyTexts.{IsReply}
+use Rattle.tell.proofs.OneAnswer.{one_report}
 use Rattle.tell.proofs.laws.one_report.Goals as goal
 
 pub returns : goal.returns
