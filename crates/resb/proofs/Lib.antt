@@ -21,3 +21,4 @@ pub mod Trees
 pub mod GoodKeys
 pub mod Denotes
 pub mod TypeSizes
+pub mod OneZone
