@@ -1,5 +1,5 @@
 -- Wall seconds of the calendar, and those outside.
-use Rattle.std.proofs.Common.{◌≡◌, inl, inr, true, false, ℤ, pos, refl, arith}
+use Rattle.std.proofs.Common.{◌≡◌, inl, inr, true, false, ℤ, pos, int_le, refl, arith}
 use Rattle.std.proofs.lemmas.Bool.{and_parts, cases_Bool}
 use Rattle.civil.specs.Clock.{IsWallSecond, wall_day}
 use Rattle.jiff_core.proofs.SignedLemmas.{signed_arith}
@@ -10,7 +10,7 @@ second_inside s is = grind (arith, signed_arith, is.first, is.last)
 
 second_within : (s : ℤ) → is_within civil_seconds s ≡ true → IsWallSecond s
 second_within s holds =
-    let parts = and_parts _ _ holds in
+    let parts = and_parts (int_le civil_seconds.first s) (int_le s civil_seconds.last) holds in
     record { first = omega (arith, signed_arith, parts.0); last = omega (arith, signed_arith, parts.1) }
 
 pub second_outside : (s : ℤ) → (IsWallSecond s → ⊥) → is_within civil_seconds s ≡ false
@@ -38,6 +38,6 @@ day_inside w is = grind (arith, signed_arith, is.first, is.last)
 pub no_wall_day : (w : ℤ) → (IsWallSecond w → ⊥) → is_within civil_days (wall_day w) ≡ false
 unfolding wall_day
 no_wall_day w never = elim (cases_Bool (is_within civil_days (wall_day w))) [
-  | inl holds ↦ (let parts = and_parts _ _ holds in absurd (never (record { first = omega (arith, signed_arith, parts.0); last = omega (arith, signed_arith, parts.1) })))
+  | inl holds ↦ (let parts = and_parts (int_le civil_days.first (wall_day w)) (int_le (wall_day w) civil_days.last) holds in absurd (never (record { first = omega (arith, signed_arith, parts.0); last = omega (arith, signed_arith, parts.1) })))
   | inr fails ↦ fails
 ]

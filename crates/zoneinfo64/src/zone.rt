@@ -260,7 +260,7 @@ impl<'a> Zone<'a> {
     /// Whether the zone is lawful: whether it keeps the eight laws in every year of its rule. Else the least law that it
     /// breaks.
     ///
-    /// All years of a kind keep the same laws, so it learns one year of each of the 14 kinds, by a step for each, and goes
+    /// All years of a kind keep the same laws, so it learns one year of each of the 14 kinds at most, a step for each, and goes
     /// through the table once, by a step for each entry. Takes no memory.
     pub fn check<L: Ledger>(&self, steps: &mut Steps<L>) -> Result<(), ZoneFault>
         ensures lawful { IfSome (plain_zone self.now) (λ z. IsOk result ↔ IsLawful z) }
