@@ -1,7 +1,9 @@
 -- The counts of years and months in closed form.
-use Rattle.std.proofs.Common.{◌≡◌, ℕ, zero, suc, ◌+◌, ◌-◌, ◌*◌, ◌/◌, ◌<◌, ◌≤◌, cond, nat_lt, [], ◌∷◌, get_or, refl, sym, ap, arith, ℤ, pos, negsuc, ◌+ℤ◌, ◌-ℤ◌, ◌*ℤ◌, ◌≤ℤ◌, neg_ℤ, unsigned_abs}
+use Rattle.std.proofs.Common.{◌≡◌, ℕ, zero, suc, ◌+◌, ◌-◌, ◌*◌, ◌/◌, ◌<◌, ◌≤◌, Bool, true, false, cond, nat_lt, [], ◌∷◌, get_or, map, refl, sym, ap, ◌∙◌, arith, ℤ, pos, negsuc, ◌+ℤ◌, ◌-ℤ◌, ◌*ℤ◌, ◌≤ℤ◌, neg_ℤ, unsigned_abs}
 use Rattle.std.proofs.lemmas.Bool.Decides.{nat_tests}
 use Rattle.std.proofs.lemmas.Int.{by_lt_z}
+use Rattle.std.proofs.lemmas.List.FromFn.{get_or-map-range_with_len}
+use Rattle.std.specs.List.{range_with_len}
 use Rattle.civil.specs.Calendar.{is_leap_year, days_in_year, days_in_month, days_from_zero, days_to_zero, year_start, days_of_months, day_of}
 use Rattle.civil.specs.CivilDates.{HoldsDay, IsDate, IsDay}
 use Rattle.civil.specs.DateLaws.{YearsHaveTheirDays}
@@ -14,9 +16,9 @@ use borrow.Author.Differences.{up, down}
 abbrev pub leap_day : ℤ → ℕ
 leap_day y = cond (is_leap_year y) 1 0
 
--- a year has 365 days, and its leap day
-pub days_in_year-leap_day : (y : ℤ) → days_in_year y ≡ 365 + leap_day y
-days_in_year-leap_day y = grind arith
+-- a year has its leap day, and 365 days
+leap_day_counts : (y : ℤ) → days_in_year y ≡ leap_day y + 365
+leap_day_counts y = grind arith
 
 -- the closed form of the years from 0 on grows by each year's leap day
 from_zero_step : (n : ℕ) → (suc n + 3) / 4 + (suc n + 399) / 400 + (n + 99) / 100 ≡ (n + 3) / 4 + (n + 399) / 400 + (suc n + 99) / 100 + leap_day (pos n)
@@ -30,34 +32,32 @@ to_zero_step n = grind (arith, nat_tests)
 pub days_from_zero-closed : (n : ℕ) → days_from_zero n + (n + 99) / 100 ≡ 365 * n + (n + 3) / 4 + (n + 399) / 400
 unfolding days_from_zero
 days_from_zero-closed zero = refl
-days_from_zero-closed (suc n) = omega (arith, days_from_zero-closed n, from_zero_step n, days_in_year-leap_day (pos n))
+days_from_zero-closed (suc n) = omega (arith, days_from_zero-closed n, from_zero_step n, leap_day_counts (pos n))
 
 -- the days of the n years before 0
 pub days_to_zero-closed : (n : ℕ) → days_to_zero n + n / 100 ≡ 365 * n + n / 4 + n / 400
 unfolding days_to_zero
 days_to_zero-closed zero = refl
-days_to_zero-closed (suc n) = omega (arith, days_to_zero-closed n, to_zero_step n, days_in_year-leap_day (negsuc n))
+days_to_zero-closed (suc n) = omega (arith, days_to_zero-closed n, to_zero_step n, leap_day_counts (negsuc n))
 
 -- the days from 0 to 1970
 epoch_days : days_from_zero 1970 ≡ 719528
 epoch_days = omega (arith, days_from_zero-closed 1970)
 
--- the table that the code reads, and the leap day past February
-pub days_of_months_table : (y : ℤ) (n : ℕ) → n < 12 → days_of_months y n ≡ get_or (0 ∷ 31 ∷ 59 ∷ 90 ∷ 120 ∷ 151 ∷ 181 ∷ 212 ∷ 243 ∷ 273 ∷ 304 ∷ 334 ∷ []) n 0 + cond (nat_lt 1 n) (leap_day y) 0
+-- the days before the nth month by the table that the code reads, with the leap day past February
+abbrev pub month_start : ℤ → ℕ → ℕ
+month_start y n = get_or (0 ∷ 31 ∷ 59 ∷ 90 ∷ 120 ∷ 151 ∷ 181 ∷ 212 ∷ 243 ∷ 273 ∷ 304 ∷ 334 ∷ []) n 0 + cond (nat_lt 1 n) (leap_day y) 0
+
+-- all twelve at once
+month_starts : (y : ℤ) (b : Bool) → is_leap_year y ≡ b → map (days_of_months y) (range_with_len 0 12) ≡ map (month_start y) (range_with_len 0 12)
 unfolding days_of_months
-days_of_months_table y zero h = grind arith
-days_of_months_table y (suc zero) h = grind arith
-days_of_months_table y (suc (suc zero)) h = grind arith
-days_of_months_table y (suc (suc (suc zero))) h = grind arith
-days_of_months_table y (suc (suc (suc (suc zero)))) h = grind arith
-days_of_months_table y (suc (suc (suc (suc (suc zero))))) h = grind arith
-days_of_months_table y (suc (suc (suc (suc (suc (suc zero)))))) h = grind arith
-days_of_months_table y (suc (suc (suc (suc (suc (suc (suc zero))))))) h = grind arith
-days_of_months_table y (suc (suc (suc (suc (suc (suc (suc (suc zero)))))))) h = grind arith
-days_of_months_table y (suc (suc (suc (suc (suc (suc (suc (suc (suc zero))))))))) h = grind arith
-days_of_months_table y (suc (suc (suc (suc (suc (suc (suc (suc (suc (suc zero)))))))))) h = grind arith
-days_of_months_table y (suc (suc (suc (suc (suc (suc (suc (suc (suc (suc (suc zero))))))))))) h = grind arith
-days_of_months_table y (suc (suc (suc (suc (suc (suc (suc (suc (suc (suc (suc (suc n)))))))))))) h = absurd (omega arith)
+month_starts y true leap = rw leap refl
+month_starts y false leap = rw leap refl
+
+pub month_start-is : (y : ℤ) (n : ℕ) → n < 12 → days_of_months y n ≡ month_start y n
+month_start-is y n h =
+    sym (get_or-map-range_with_len (days_of_months y) 0 12 n n 0 h (omega arith)) ∙ ap (λ l. get_or l n 0) (month_starts y (is_leap_year y) refl)
+    ∙ get_or-map-range_with_len (month_start y) 0 12 n n 0 h (omega arith)
 
 -- the first day of a year from 0 on
 year_start-from : (n : ℕ) → year_start (pos n) ≡ pos (days_from_zero n) -ℤ pos 719528
@@ -112,30 +112,29 @@ counts_years = record {
 -- the twelve months are the year
 pub year_of_months : (y : ℤ) → days_of_months y 12 ≡ days_in_year y
 unfolding days_of_months
-year_of_months y = grind (arith, days_of_months_table y 11 (omega arith), days_in_year-leap_day y)
+year_of_months y = grind arith
+
+-- k months more have up to 31 days each
+pub months_more : (y : ℤ) (n k m : ℕ) → n + k ≡ m → (days_of_months y n ≤ days_of_months y m) × (days_of_months y m ≤ days_of_months y n + 31 * k)
+unfolding days_of_months
+months_more y n zero m e = let same : n ≡ m = omega arith in rw same (omega arith, omega arith)
+months_more y n (suc k) zero e = absurd (omega arith)
+months_more y n (suc k) (suc m) e =
+    let rest = months_more y n k m (omega arith) in
+    let most : days_in_month y (suc m) ≤ 31 = grind arith in
+    (omega (arith, rest), omega (arith, rest, most))
 
 -- a month lies inside its year
 pub months_within : (y : ℤ) (n : ℕ) → n < 12 → days_of_months y n + days_in_month y (suc n) ≤ days_in_year y
-months_within y zero h = grind (arith, days_of_months_table y 0 (omega arith))
-months_within y (suc zero) h = grind (arith, days_of_months_table y 1 (omega arith))
-months_within y (suc (suc zero)) h = grind (arith, days_of_months_table y 2 (omega arith))
-months_within y (suc (suc (suc zero))) h = grind (arith, days_of_months_table y 3 (omega arith))
-months_within y (suc (suc (suc (suc zero)))) h = grind (arith, days_of_months_table y 4 (omega arith))
-months_within y (suc (suc (suc (suc (suc zero))))) h = grind (arith, days_of_months_table y 5 (omega arith))
-months_within y (suc (suc (suc (suc (suc (suc zero)))))) h = grind (arith, days_of_months_table y 6 (omega arith))
-months_within y (suc (suc (suc (suc (suc (suc (suc zero))))))) h = grind (arith, days_of_months_table y 7 (omega arith))
-months_within y (suc (suc (suc (suc (suc (suc (suc (suc zero)))))))) h = grind (arith, days_of_months_table y 8 (omega arith))
-months_within y (suc (suc (suc (suc (suc (suc (suc (suc (suc zero))))))))) h = grind (arith, days_of_months_table y 9 (omega arith))
-months_within y (suc (suc (suc (suc (suc (suc (suc (suc (suc (suc zero)))))))))) h = grind (arith, days_of_months_table y 10 (omega arith))
-months_within y (suc (suc (suc (suc (suc (suc (suc (suc (suc (suc (suc zero))))))))))) h = grind (arith, days_of_months_table y 11 (omega arith))
-months_within y (suc (suc (suc (suc (suc (suc (suc (suc (suc (suc (suc (suc n)))))))))))) h = absurd (omega arith)
+unfolding days_of_months
+months_within y n h = omega (arith, months_more y (suc n) (11 - n) 12 (omega arith), year_of_months y)
 
 -- a day of a month lies inside its year, whether the calendar has the year or not
 pub day_in_year : (y : ℤ) (m d : ℕ) → 1 ≤ m → m ≤ 12 → d ≤ days_in_month y m → days_of_months y (m - 1) + d ≤ days_in_year y
 day_in_year y zero d first last within = absurd (omega arith)
 day_in_year y (suc n) d first last within =
-    let back : suc n - 1 ≡ n = omega arith in
-    rw back (omega (arith, months_within y n (omega arith)))
+    let index : suc n - 1 ≡ n = omega arith in
+    rw index (omega (arith, months_within y n (omega arith)))
 
 -- so does a date
 pub day_within : (y : ℤ) (m d : ℕ) → IsDate y m d → days_of_months y (m - 1) + d ≤ days_in_year y
@@ -227,35 +226,13 @@ months_few y n h =
     omega (arith, months_within y n h, days_in_year_bound y, some)
 
 -- n months have at most 32 days each
-months_before : (y : ℤ) (n : ℕ) → n < 12 → days_of_months y n ≤ 32 * n
-months_before y zero h = grind (arith, days_of_months_table y 0 (omega arith))
-months_before y (suc (zero)) h = grind (arith, days_of_months_table y 1 (omega arith))
-months_before y (suc (suc (zero))) h = grind (arith, days_of_months_table y 2 (omega arith))
-months_before y (suc (suc (suc (zero)))) h = grind (arith, days_of_months_table y 3 (omega arith))
-months_before y (suc (suc (suc (suc (zero))))) h = grind (arith, days_of_months_table y 4 (omega arith))
-months_before y (suc (suc (suc (suc (suc (zero)))))) h = grind (arith, days_of_months_table y 5 (omega arith))
-months_before y (suc (suc (suc (suc (suc (suc (zero))))))) h = grind (arith, days_of_months_table y 6 (omega arith))
-months_before y (suc (suc (suc (suc (suc (suc (suc (zero)))))))) h = grind (arith, days_of_months_table y 7 (omega arith))
-months_before y (suc (suc (suc (suc (suc (suc (suc (suc (zero))))))))) h = grind (arith, days_of_months_table y 8 (omega arith))
-months_before y (suc (suc (suc (suc (suc (suc (suc (suc (suc (zero)))))))))) h = grind (arith, days_of_months_table y 9 (omega arith))
-months_before y (suc (suc (suc (suc (suc (suc (suc (suc (suc (suc (zero))))))))))) h = grind (arith, days_of_months_table y 10 (omega arith))
-months_before y (suc (suc (suc (suc (suc (suc (suc (suc (suc (suc (suc (zero)))))))))))) h = grind (arith, days_of_months_table y 11 (omega arith))
-months_before y (suc (suc (suc (suc (suc (suc (suc (suc (suc (suc (suc (suc (n))))))))))))) h = absurd (omega arith)
+months_before : (y : ℤ) (n : ℕ) → days_of_months y n ≤ 32 * n
+unfolding days_of_months
+months_before y n = omega (arith, months_more y 0 n n (omega arith))
 
--- and one month more has no fewer days than 32 for each
+-- and one month more has no fewer days than 32 for each, since those that are left of the year have few
 months_from : (y : ℤ) (n : ℕ) → suc n < 12 → 32 * n + 32 ≤ days_of_months y (suc (suc n))
-months_from y zero h = grind (arith, days_of_months_table y 2 (omega arith))
-months_from y (suc (zero)) h = grind (arith, days_of_months_table y 3 (omega arith))
-months_from y (suc (suc (zero))) h = grind (arith, days_of_months_table y 4 (omega arith))
-months_from y (suc (suc (suc (zero)))) h = grind (arith, days_of_months_table y 5 (omega arith))
-months_from y (suc (suc (suc (suc (zero))))) h = grind (arith, days_of_months_table y 6 (omega arith))
-months_from y (suc (suc (suc (suc (suc (zero)))))) h = grind (arith, days_of_months_table y 7 (omega arith))
-months_from y (suc (suc (suc (suc (suc (suc (zero))))))) h = grind (arith, days_of_months_table y 8 (omega arith))
-months_from y (suc (suc (suc (suc (suc (suc (suc (zero)))))))) h = grind (arith, days_of_months_table y 9 (omega arith))
-months_from y (suc (suc (suc (suc (suc (suc (suc (suc (zero))))))))) h = grind (arith, days_of_months_table y 10 (omega arith))
-months_from y (suc (suc (suc (suc (suc (suc (suc (suc (suc (zero)))))))))) h = grind (arith, days_of_months_table y 11 (omega arith))
-months_from y (suc (suc (suc (suc (suc (suc (suc (suc (suc (suc (zero))))))))))) h = grind (arith, year_of_months y)
-months_from y (suc (suc (suc (suc (suc (suc (suc (suc (suc (suc (suc (n)))))))))))) h = absurd (omega arith)
+months_from y n h = omega (arith, months_more y (suc (suc n)) (10 - n) 12 (omega arith), year_of_months y, leap_day_counts y)
 
 -- the month of a day of the year is the one after as many months as it has 32 days, or the next one
 pub record NearMonth (y : ℤ) (r : ℕ) : Type 0 where
@@ -272,7 +249,7 @@ near_month y r h =
     let next : n + 1 + 1 ≡ suc (suc n) = omega arith in
     record {
       small = small;
-      begun = omega (arith, ap (days_of_months y) same, months_before y n small);
+      begun = omega (arith, ap (days_of_months y) same, months_before y n);
       not_over = λ more. omega (arith, ap (days_of_months y) next, months_from y n (omega arith));
       last = λ no. let all : n + 1 ≡ 12 = omega (arith, no) in omega (arith, ap (days_of_months y) all, year_of_months y);
     }

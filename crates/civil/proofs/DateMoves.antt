@@ -1,9 +1,9 @@
 -- A date moved by months is a date of the calendar exactly where its day is one.
-use Rattle.std.proofs.Common.{◌≡◌, ℕ, zero, suc, ◌+◌, ◌-◌, ◌<◌, ◌≤◌, ◌↔◌, inl, inr, min, refl, sym, ap, subst, ◌∙◌, arith, ℤ, pos, ◌+ℤ◌}
+use Rattle.std.proofs.Common.{◌≡◌, ℕ, ◌-◌, ◌<◌, ◌≤◌, ◌↔◌, inl, inr, min, refl, sym, ap, subst, ◌∙◌, arith, ℤ, pos, ◌+ℤ◌}
 use Rattle.std.proofs.lemmas.Bool.{cases_lt}
 use Rattle.std.proofs.lemmas.Int.{by_lt_z}
 use Rattle.std.proofs.lemmas.Grind.{common_steps}
-use Rattle.civil.specs.Calendar.{days_in_month, days_in_year, days_of_months, day_of}
+use Rattle.civil.specs.Calendar.{days_in_month, days_of_months, day_of}
 use Rattle.civil.specs.CivilDates.{HoldsDay, IsDate, IsDay, IsDateOf}
 use Rattle.civil.specs.DateLaws.{IsMonthDay, MonthDaysAreDays}
 use Rattle.civil.specs.Months.{months_on, moved_year, moved_month}

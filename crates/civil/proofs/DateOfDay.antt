@@ -87,10 +87,10 @@ pub date_by_parts : (day y : ℤ) (r m before : ℕ) → IsDay day → HoldsDay 
     → before ≡ days_of_months y (m - 1) → days_of_months y (m - 1) ≤ r → r < days_of_months y m → IsDateOf day y m (r - before + 1)
 date_by_parts day y r zero before is holds e low high f from to = absurd (omega arith)
 date_by_parts day y r (suc n) before is holds e low high f from to =
-    let back : suc n - 1 ≡ n = omega arith in
-    let same : before ≡ days_of_months y n = f ∙ ap (days_of_months y) back in
+    let index : suc n - 1 ≡ n = omega arith in
+    let same : before ≡ days_of_months y n = f ∙ ap (days_of_months y) index in
     let years = year_in_calendar y day holds is in
-    let date = date_in_month day y r n years.0 years.1 (omega arith) (omega (arith, ap (days_of_months y) back)) to e in
+    let date = date_in_month day y r n years.0 years.1 (omega arith) (omega (arith, ap (days_of_months y) index)) to e in
     let d : suc (r - days_of_months y n) ≡ r - before + 1 = omega (arith, same) in
     let P : ℕ → Type 0 = λ d. IsDateOf day y (suc n) d in
     subst P d (record { exists = date.0; is = date.1 })

@@ -6,26 +6,15 @@ use Rattle.std.proofs.lemmas.Bool.{cases_lt}
 use Rattle.std.proofs.lemmas.Int.{by_lt_z}
 use Rattle.civil.specs.Laws.{IsEarlier}
 use Rattle.jiff_core.proofs.SignedLemmas.{signed_arith}
-use Rattle.civil.proofs.CalendarLemmas.{day_of-is, day_within, starts_in_order, year_start-next}
-
--- k more months have at least as many days
-months_up : (y : ℤ) (n k : ℕ) → days_of_months y n ≤ days_of_months y (k + n)
-unfolding days_of_months
-months_up y n zero =
-    let same : 0 + n ≡ n = omega arith in
-    rw same (omega arith)
-months_up y n (suc k) =
-    let next : suc k + n ≡ suc (k + n) = omega arith in
-    rw next (omega (arith, months_up y n k))
+use Rattle.civil.proofs.CalendarLemmas.{day_of-is, day_within, months_more, starts_in_order, year_start-next}
 
 -- a month ends before a later one of its year begins
 pub month_before : (y : ℤ) (m m' : ℕ) → 1 ≤ m → m < m' → days_of_months y (m - 1) + days_in_month y m ≤ days_of_months y (m' - 1)
 unfolding days_of_months
 month_before y zero m' h k = absurd (omega arith)
 month_before y (suc n) m' h k =
-    let back : suc n - 1 ≡ n = omega arith in
-    let there : (m' - 1 - suc n) + suc n ≡ m' - 1 = omega arith in
-    rw back (rw there at (months_up y (suc n) (m' - 1 - suc n)))
+    let index : suc n - 1 ≡ n = omega arith in
+    rw index (months_more y (suc n) (m' - 1 - suc n) (m' - 1) (omega arith)).0
 
 -- a date of an earlier year
 earlier_year : (y : ℤ) (m d : ℕ) (y' : ℤ) (m' d' : ℕ) → IsDate y m d → y <ℤ y' → day_of y m d <ℤ day_of y' m' d'

@@ -1,36 +1,15 @@
 -- Years of one kind have the same months and the same weekdays; and every kind occurs.
 use Rattle.std.proofs.Common.{◌≡◌, ℕ, zero, suc, ◌+◌, ◌*◌, ◌<◌, Bool, true, false, cond, refl, sym, ap, subst, ◌∙◌, arith, ℤ, pos, negsuc, ◌+ℤ◌, ◌-ℤ◌, ◌*ℤ◌, ◌≤ℤ◌, ◌<ℤ◌, unsigned_abs}
 use Rattle.std.specs.Int.{int_div_euclid}
-use Rattle.civil.specs.Calendar.{is_leap_year, days_in_month, year_start, days_of_months, weekday_of, year_kind, example_year}
+use Rattle.civil.specs.Calendar.{is_leap_year, days_in_month, year_start, weekday_of, year_kind, example_year}
 use Rattle.civil.specs.Inside.LeapDays.{leap_days_to}
-use Rattle.jiff_core.proofs.SignedLemmas.{signed_arith, one_part, int_rem_euclid-parts}
+use Rattle.jiff_core.proofs.SignedLemmas.{signed_arith}
 use Rattle.civil.proofs.CalendarLemmas.{year_start-closed}
 use Rattle.civil.proofs.CalendarCycle.{year_start-400, is_leap_year-400}
 
--- ---- weekdays
-
--- a weekday is the day plus 3, less whole weeks
-pub weekday_of-parts : (day : ℤ) → (day +ℤ pos 3 ≡ pos 7 *ℤ int_div_euclid (day +ℤ pos 3) (pos 7) +ℤ weekday_of day) × (pos 0 ≤ℤ weekday_of day) × (weekday_of day <ℤ pos 7)
-weekday_of-parts day =
-    let parts = int_rem_euclid-parts (day +ℤ pos 3) 7 (omega arith) in
-    (omega (arith, signed_arith, parts), omega (arith, signed_arith, parts), omega (arith, signed_arith, parts))
-
--- a number of whole weeks and up to six days tells the weekday
-pub weekday_of-is : (day q w : ℤ) → day +ℤ pos 3 ≡ pos 7 *ℤ q +ℤ w → pos 0 ≤ℤ w → w <ℤ pos 7 → weekday_of day ≡ w
-weekday_of-is day q w e low high =
-    let parts = weekday_of-parts day in
-    omega (arith, signed_arith, parts.0, parts.1, parts.2)
-
 -- days with one weekday have one weekday as many days later
 pub weekday_of-later : (a b n : ℤ) → weekday_of a ≡ weekday_of b → weekday_of (a +ℤ n) ≡ weekday_of (b +ℤ n)
-weekday_of-later a b n same =
-    let left = weekday_of-parts a in
-    let right = weekday_of-parts b in
-    let later = weekday_of-parts (b +ℤ n) in
-    weekday_of-is (a +ℤ n) (int_div_euclid (a +ℤ pos 3) (pos 7) -ℤ int_div_euclid (b +ℤ pos 3) (pos 7) +ℤ int_div_euclid ((b +ℤ n) +ℤ pos 3) (pos 7)) (weekday_of (b +ℤ n))
-    (omega (arith, signed_arith, left.0, right.0, later.0)) later.1 later.2
-
--- ---- kinds
+weekday_of-later a b n same = omega (arith, signed_arith)
 
 -- a weekday and whether a year is leap, told apart in their sum
 kind_parts : (a b : ℕ) (p q : Bool) → a < 7 → b < 7 → a + cond p 7 0 ≡ b + cond q 7 0 → (p ≡ q) × (a ≡ b)
@@ -45,17 +24,13 @@ unfolding year_kind
 year_kind-is y = refl
 
 weekday_below : (y : ℤ) → unsigned_abs (weekday_of (year_start y)) < 7
-weekday_below y =
-    let parts = weekday_of-parts (year_start y) in
-    omega (arith, signed_arith, parts.1, parts.2, one_part (weekday_of (year_start y)))
+weekday_below y = omega (arith, signed_arith)
 
 -- two years of one kind are both leap or both not, and begin with one weekday
 pub same_kind : (y z : ℤ) → year_kind y ≡ year_kind z → (is_leap_year y ≡ is_leap_year z) × (weekday_of (year_start y) ≡ weekday_of (year_start z))
 same_kind y z same =
     let parts = kind_parts _ _ (is_leap_year y) (is_leap_year z) (weekday_below y) (weekday_below z) (sym (year_kind-is y) ∙ same ∙ year_kind-is z) in
-    let left = weekday_of-parts (year_start y) in
-    let right = weekday_of-parts (year_start z) in
-    (parts.0, omega (arith, signed_arith, parts.1, left.1, left.2, right.1, right.2, one_part (weekday_of (year_start y)), one_part (weekday_of (year_start z))))
+    (parts.0, omega (arith, signed_arith, parts.1))
 
 below_14 : (w : ℕ) (leap : Bool) → w < 7 → w + cond leap 7 0 < 14
 below_14 w true h = omega arith
@@ -68,25 +43,15 @@ kind_below y = let P : ℕ → Type 0 = λ k. k < 14 in subst P (sym (year_kind-
 pub days_in_month-leap : (y z : ℤ) → is_leap_year y ≡ is_leap_year z → (m : ℕ) → days_in_month y m ≡ days_in_month z m
 days_in_month-leap y z same m = rw same refl
 
-pub days_of_months-leap : (y z : ℤ) → is_leap_year y ≡ is_leap_year z → (m : ℕ) → days_of_months y m ≡ days_of_months z m
-unfolding days_of_months
-days_of_months-leap y z same zero = refl
-days_of_months-leap y z same (suc m) = omega (arith, days_of_months-leap y z same m, days_in_month-leap y z same (suc m))
-
 pub year_kind-400 : (y : ℤ) → year_kind (y +ℤ pos 400) ≡ year_kind y
 year_kind-400 y =
-    let begin = year_start-400 y in
-    let parts = weekday_of-parts (year_start y) in
-    let weekday : weekday_of (year_start (y +ℤ pos 400)) ≡ weekday_of (year_start y) =
-    weekday_of-is (year_start (y +ℤ pos 400)) (int_div_euclid (year_start y +ℤ pos 3) (pos 7) +ℤ pos 20871) (weekday_of (year_start y)) (omega (arith, signed_arith, begin, parts.0)) parts.1 parts.2 in
+    let weekday : weekday_of (year_start (y +ℤ pos 400)) ≡ weekday_of (year_start y) = omega (arith, signed_arith, year_start-400 y) in
     year_kind-is (y +ℤ pos 400) ∙ ap (λ w. unsigned_abs w + cond (is_leap_year (y +ℤ pos 400)) 7 0) weekday
     ∙ ap (λ b. unsigned_abs (weekday_of (year_start y)) + cond b 7 0) (is_leap_year-400 y) ∙ sym (year_kind-is y)
 
 -- the kind that code adds up
 pub code_kind : (y weekday : ℤ) (leap : Bool) → weekday ≡ weekday_of (year_start y) → leap ≡ is_leap_year y → unsigned_abs weekday + cond leap 7 0 ≡ year_kind y
 code_kind y weekday leap e f = ap (λ w. unsigned_abs w + cond leap 7 0) e ∙ ap (λ b. unsigned_abs (weekday_of (year_start y)) + cond b 7 0) f ∙ sym (year_kind-is y)
-
--- ---- every kind occurs
 
 -- a whole number of times 400 years later
 year_kind-cycles : (n : ℕ) (y : ℤ) → year_kind (y +ℤ pos (400 * n)) ≡ year_kind y
@@ -133,10 +98,9 @@ kind_of_example (suc (suc (suc (suc (suc (suc (suc (suc (suc (suc (suc (suc (suc
 -- the kth kind occurs in any 400 years in a row
 pub kind_occurs : (y : ℤ) (k : ℕ) → k < 14 → (z : ℤ) × (y ≤ℤ z) × (z <ℤ (y +ℤ pos 400)) × (year_kind z ≡ k)
 kind_occurs y k h =
-    let q = int_div_euclid (y -ℤ example_year k +ℤ pos 399) (pos 400) in
-    let parts = int_rem_euclid-parts (y -ℤ example_year k +ℤ pos 399) 400 (omega arith) in (
+    let q = int_div_euclid (y -ℤ example_year k +ℤ pos 399) (pos 400) in (
       example_year k +ℤ pos 400 *ℤ q,
-      omega (arith, signed_arith, parts),
-      omega (arith, signed_arith, parts),
+      omega (arith, signed_arith),
+      omega (arith, signed_arith),
       year_kind-moved q (example_year k) ∙ kind_of_example k h,
     )

@@ -1,5 +1,5 @@
 -- Dates of the proleptic Gregorian calendar, and their days (docs/CALENDAR.md, "Dates").
-use Rattle.std.specs.Prelude.{◌≡◌, ℕ, ◌+◌, ◌≤◌, ℤ, pos, negsuc, ◌+ℤ◌, ◌<ℤ◌, ◌≤ℤ◌}
+use Rattle.std.specs.Prelude.{◌≡◌, ℕ, ◌≤◌, ℤ, pos, negsuc, ◌+ℤ◌, ◌<ℤ◌, ◌≤ℤ◌}
 use Rattle.civil.specs.Calendar.{days_in_month, year_start, day_of}
 
 -- the calendar has this date
