@@ -170,7 +170,7 @@ measure_short() {
     fi
     one_line "3 items in English" 800 "1 day 3 hours 46 minutes ago" 100000 ago en
     one_line "3 items in Japanese" 950 "" 100000 ago ja
-    one_line "3 items in Russian" 900 "" 100000 ago ru
+    one_line "3 items in Russian" 800 "" 100000 ago ru
     if command -v python3 >/dev/null; then
         python3 "$top/bench/sample_zones.py" rule >"$work/rule.res" || exit 1
         python3 "$top/bench/sample_zones.py" table >"$work/table.res" || exit 1
