@@ -1,12 +1,12 @@
 mod YearsBetween
-pub mod CalendarLemmas
+mod CalendarLemmas
 mod CalendarCycle
-pub mod YearKinds
+mod YearKinds
 mod DateOrder
-pub mod DateOfDay
+mod DateOfDay
 mod DateEnds
-pub mod DateMoves
-pub mod WallParts
+mod DateMoves
+mod WallParts
 mod CalendarExamples
 mod WeekOfThursday
 mod Setters

@@ -3,20 +3,23 @@
 use Rattle.std.specs.Prelude.{ℕ, zero, suc, ◌+◌, ◌-◌, ◌*◌, ◌%◌, Bool, not, ◌&&◌, ◌||◌, ◌==◌, if◌then◌else◌, [], ◌∷◌, slice_index, ℤ, pos, negsuc, ◌+ℤ◌, ◌-ℤ◌, ◌*ℤ◌, neg_ℤ, unsigned_abs}
 use Rattle.std.specs.Int.{int_rem_euclid}
 
--- 4 divides the year and 100 does not, or 400 divides it
+-- whether n divides a year's number
+abbrev pub divides : ℕ → ℤ → Bool
+divides n year = unsigned_abs year % n == 0
+
+-- every fourth year but those of the centuries, of which every fourth is one too
 abbrev pub is_leap_year : ℤ → Bool
-is_leap_year y =
-    (unsigned_abs y % 4 == 0) && (not (unsigned_abs y % 100 == 0) || (unsigned_abs y % 400 == 0))
+is_leap_year year = divides 4 year && (not (divides 100 year) || divides 400 year)
 
 -- 366 days in a leap year, 365 in any other
 abbrev pub days_in_year : ℤ → ℕ
-days_in_year y = if is_leap_year y then 366 else 365
+days_in_year year = if is_leap_year year then 366 else 365
 
--- thirty days have September, April, June and November
+-- thirty days have September, April, June and November, and February has 28, in a leap year 29
 abbrev pub days_in_month : ℤ → ℕ → ℕ
-days_in_month y m =
-    if m == 2 then (if is_leap_year y then 29 else 28)
-    else (if (m == 4) || (m == 6) || (m == 9) || (m == 11) then 30 else 31)
+days_in_month year month =
+    if month == 2 then (if is_leap_year year then 29 else 28)
+    else (if (month == 4) || (month == 6) || (month == 9) || (month == 11) then 30 else 31)
 
 -- the days of the n years from the year 0 on
 unfoldable pub days_from_zero : ℕ → ℕ
@@ -35,8 +38,8 @@ year_start (negsuc n) = neg_ℤ (pos (days_to_zero (suc n) + days_from_zero 1970
 
 -- the days of the first n months of the year
 unfoldable pub days_of_months : ℤ → ℕ → ℕ
-days_of_months y zero = 0
-days_of_months y (suc n) = days_of_months y n + days_in_month y (suc n)
+days_of_months year zero = 0
+days_of_months year (suc n) = days_of_months year n + days_in_month year (suc n)
 
 -- the day number of a date
 unfoldable pub day_of : ℤ → ℕ → ℕ → ℤ

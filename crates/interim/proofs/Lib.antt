@@ -1,23 +1,23 @@
 mod GrammarExamples
-pub mod Answered
-pub mod Digits
-pub mod JiffDays
-pub mod JiffInstants
-pub mod JiffTables
+mod Answered
+mod Digits
+mod JiffDays
+mod JiffInstants
+mod JiffTables
 mod MeaningExamples
-pub mod OneMeaning
-pub mod PlainBytes
-pub mod PlainMeaning
-pub mod PlainShapes
-pub mod PlainWalls
-pub mod PlainReading
-pub mod SomeMeaning
-pub mod SoundDate
-pub mod SoundParts
-pub mod SoundSteps
-pub mod SoundTime
-pub mod Stretches
-pub mod Tail
+mod OneMeaning
+mod PlainBytes
+mod PlainMeaning
+mod PlainShapes
+mod PlainWalls
+mod PlainReading
+mod SomeMeaning
+mod SoundDate
+mod SoundParts
+mod SoundSteps
+mod SoundTime
+mod Stretches
+mod Tail
 mod TokenExamples
-pub mod TokenPlaces
-pub mod WordLemmas
+mod TokenPlaces
+mod WordLemmas

@@ -155,7 +155,8 @@ impl Time for civil::Time {
         Ok(civil::Time::from_plain(time))
     }
 
-    ghost ordered = { λ a b. same_order (time_seconds a) (time_seconds b) a.subsec_nanosecond b.subsec_nanosecond a.subsec_in b.subsec_in };
+    ghost ordered = { λ a b. same_order (time_seconds a) (time_seconds b)
+        a.subsec_nanosecond b.subsec_nanosecond a.subsec_in b.subsec_in };
 }
 
 impl<'a> DateTime for Zoned<'a> {

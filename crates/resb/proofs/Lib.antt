@@ -1,24 +1,24 @@
-pub mod Cases
-pub mod Folds
-pub mod Pools
-pub mod PoolSearch
-pub mod LaidWords
-pub mod LaidSteps
-pub mod LaidParents
-pub mod Rows
-pub mod RowParts
-pub mod RowParents
-pub mod Rooms
-pub mod Refusals
-pub mod Told
-pub mod PlacedKeys
-pub mod WrittenWords
-pub mod PackedWords
-pub mod TreeKinds
-pub mod PoolReads
-pub mod ReadBack
-pub mod Trees
-pub mod GoodKeys
-pub mod Denotes
-pub mod TypeSizes
-pub mod OneZone
+mod Cases
+mod Folds
+mod Pools
+mod PoolSearch
+mod LaidWords
+mod LaidSteps
+mod LaidParents
+mod Rows
+mod RowParts
+mod RowParents
+mod Rooms
+mod Refusals
+mod Told
+mod PlacedKeys
+mod WrittenWords
+mod PackedWords
+mod TreeKinds
+mod PoolReads
+mod ReadBack
+mod Trees
+mod GoodKeys
+mod Denotes
+mod TypeSizes
+mod OneZone

@@ -13,7 +13,8 @@ pub struct KeyPool<'a> {
     pub places: BTreeMap<&'a [u8], usize>,
     /// The byte behind the last key's zero byte.
     pub end: usize,
-    ghost told: { (key : List ℕ) → get_by (λ k. slice_cmp nat_cmp key k.now) places ≡ place_told (bare keys.items) key },
+    ghost told: { (key : List ℕ) → get_by (λ k. slice_cmp nat_cmp key k.now) places
+        ≡ place_told (bare keys.items) key },
     ghost ends: { end ≡ pool_end (bare keys.items) },
 }
 

@@ -1,11 +1,11 @@
-pub mod Weights
-pub mod Runs
-pub mod Scans
-pub mod Spans
-pub mod KeySets
-pub mod FirstEntries
-pub mod Checks
-pub mod Left
-pub mod KeyPlaces
-pub mod LeafParts
-pub mod Parts
+mod Weights
+mod Runs
+mod Scans
+mod Spans
+mod KeySets
+mod FirstEntries
+mod Checks
+mod Left
+mod KeyPlaces
+mod LeafParts
+mod Parts

@@ -1,3 +1,3 @@
-pub mod BytesLemmas
-pub mod LineCuts
-pub mod ServeLemmas
+mod BytesLemmas
+mod LineCuts
+mod ServeLemmas

@@ -1,16 +1,16 @@
-pub mod FieldCuts
-pub mod Fronts
-pub mod PlainPhrases
-pub mod NearWalls
-pub mod SaidMoments
-pub mod MomentTexts
-pub mod FoundMoments
-pub mod LoadZones
-pub mod LoadDraft
-pub mod LoadReports
-pub mod Tallies
-pub mod RunLemmas
-pub mod OneAnswer
-pub mod ReadBackTokens
-pub mod ReadBack
-pub mod ReadBackExamples
+mod FieldCuts
+mod Fronts
+mod PlainPhrases
+mod NearWalls
+mod SaidMoments
+mod MomentTexts
+mod FoundMoments
+mod LoadZones
+mod LoadDraft
+mod LoadReports
+mod Tallies
+mod RunLemmas
+mod OneAnswer
+mod ReadBackTokens
+mod ReadBack
+mod ReadBackExamples

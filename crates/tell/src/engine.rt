@@ -63,5 +63,6 @@ impl Answer for AtEngine {
         push_reply(replies, &self.teller, &self.zones, line)
     }
 
-    ghost cuts_long_lines = { λ engine. at_cuts_long_lines (any_speech engine.language) engine.zones };
+    ghost cuts_long_lines = { λ engine.
+        at_cuts_long_lines (any_speech engine.language) engine.zones };
 }

@@ -19,7 +19,8 @@ pub struct Located<Tz: Civil> {
     inside: bool,
     ghost in_day: { ForSome east IsOffset },
     ghost kept: { Tz.sound zone → ForSome east (λ seconds. seconds ≡ Tz.off zone (wall_of utc)) },
-    ghost shown: { IsTrue inside → Tz.sound zone → IsWallSecond (wall_of utc +ℤ Tz.off zone (wall_of utc)) },
+    ghost shown: { IsTrue inside → Tz.sound zone
+        → IsWallSecond (wall_of utc +ℤ Tz.off zone (wall_of utc)) },
 }
 
 // The time in UTC of a wall time with an offset of so many seconds; none exactly where its second is outside the calendar.

@@ -1,7 +1,7 @@
-pub mod CountLists
-pub mod Sums
-pub mod Texts
-pub mod Kept
-pub mod DefaultTexts
-pub mod ToldExamples
-pub mod Digits
+mod CountLists
+mod Sums
+mod Texts
+mod Kept
+mod DefaultTexts
+mod ToldExamples
+mod Digits

@@ -1,2 +1,2 @@
-pub mod TextLemmas
-pub mod WordExamples
+mod TextLemmas
+mod WordExamples

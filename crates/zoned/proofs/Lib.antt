@@ -1,3 +1,3 @@
 mod OffsetTexts
 mod OneOffset
-pub mod PlacedSeconds
+mod PlacedSeconds

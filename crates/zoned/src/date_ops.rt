@@ -17,7 +17,8 @@ impl<Tz: TimeZone> Add<TimeDelta> for Date<Tz> {
 
     ghost can_add = { λ d n. IsDay (day_number d +ℤ int_div n (pos 86400000000000)) };
 
-    ghost add_gives = { λ d n r. (day_number r ≡ day_number d +ℤ int_div n (pos 86400000000000)) × (date_offset r ≡ date_offset d) };
+    ghost add_gives = { λ d n r. (day_number r ≡ day_number d +ℤ int_div n (pos 86400000000000))
+        × (date_offset r ≡ date_offset d) };
 
     fn add(self, rhs: TimeDelta) -> Date<Tz> {
         self.checked_add_signed(rhs).unwrap()
@@ -30,7 +31,8 @@ impl<Tz: TimeZone> AddAssign<TimeDelta> for Date<Tz> {
 
     ghost can_add_assign = { λ d n. IsDay (day_number d +ℤ int_div n (pos 86400000000000)) };
 
-    ghost add_assign_gives = { λ d n r. (day_number r ≡ day_number d +ℤ int_div n (pos 86400000000000)) × (date_offset r ≡ date_offset d) };
+    ghost add_assign_gives = { λ d n r. (day_number r ≡ day_number d +ℤ int_div n (pos 86400000000000))
+        × (date_offset r ≡ date_offset d) };
 
     fn add_assign(&mut self, rhs: TimeDelta) {
         *self = self.checked_add_signed(rhs).unwrap();
@@ -45,7 +47,8 @@ impl<Tz: TimeZone> Sub<TimeDelta> for Date<Tz> {
 
     ghost can_sub = { λ d n. IsDay (day_number d -ℤ int_div n (pos 86400000000000)) };
 
-    ghost sub_gives = { λ d n r. (day_number r ≡ day_number d -ℤ int_div n (pos 86400000000000)) × (date_offset r ≡ date_offset d) };
+    ghost sub_gives = { λ d n r. (day_number r ≡ day_number d -ℤ int_div n (pos 86400000000000))
+        × (date_offset r ≡ date_offset d) };
 
     fn sub(self, rhs: TimeDelta) -> Date<Tz> {
         self.checked_sub_signed(rhs).unwrap()
@@ -58,7 +61,8 @@ impl<Tz: TimeZone> SubAssign<TimeDelta> for Date<Tz> {
 
     ghost can_sub_assign = { λ d n. IsDay (day_number d -ℤ int_div n (pos 86400000000000)) };
 
-    ghost sub_assign_gives = { λ d n r. (day_number r ≡ day_number d -ℤ int_div n (pos 86400000000000)) × (date_offset r ≡ date_offset d) };
+    ghost sub_assign_gives = { λ d n r. (day_number r ≡ day_number d -ℤ int_div n (pos 86400000000000))
+        × (date_offset r ≡ date_offset d) };
 
     fn sub_assign(&mut self, rhs: TimeDelta) {
         *self = self.checked_sub_signed(rhs).unwrap();
@@ -113,9 +117,13 @@ impl<Tz: TimeZone> Datelike for Date<Tz> {
 
     ghost settled = { λ d. Tz.sound (Tz.zone_of (date_offset d)) };
 
-    ghost takes = { λ d day. IsTrue (is_single (Tz.local (Tz.zone_of (date_offset d)) (pos 86400 *ℤ day))) };
+    ghost takes = { λ d day.
+        IsTrue (is_single (Tz.local (Tz.zone_of (date_offset d)) (pos 86400 *ℤ day))) };
 
-    ghost keeps = { λ d e. let zone = Tz.zone_of (date_offset d) in (Tz.zone_of (date_offset e) ≡ zone) × (Tz.sound zone → Tz.local zone (pos 86400 *ℤ day_number e) ≡ Mapped.Single (Tz.Offset.seconds (date_offset e))) };
+    ghost keeps = { λ d e. let zone = Tz.zone_of (date_offset d) in
+        (Tz.zone_of (date_offset e) ≡ zone)
+        × (Tz.sound zone → Tz.local zone (pos 86400 *ℤ day_number e)
+        ≡ Mapped.Single (Tz.Offset.seconds (date_offset e))) };
 
     fn year(&self) -> i32 {
         self.naive_utc().year()
@@ -199,7 +207,8 @@ where
     ghost use Rattle.civil.specs.Dates.{date_text};
     ghost use Rattle.zoned.specs.Days.{day_number, date_offset};
 
-    ghost debug_output = { λ d. Some (date_text (day_number d)) ++? Tz.Offset.debug_output (date_offset d) };
+    ghost debug_output = { λ d. Some (date_text (day_number d))
+        ++? Tz.Offset.debug_output (date_offset d) };
 
     fn fmt<W: fmt::Write>(&self, f: &mut fmt::Formatter<W>) -> fmt::Result {
         let date = self.naive_utc();
