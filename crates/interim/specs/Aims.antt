@@ -1,5 +1,5 @@
 -- The clock time to which a phrase leads (docs/GRAMMAR.md, "The meaning").
-use Rattle.std.specs.Prelude.{ℕ, ◌*◌, ◌/◌, ◌%◌, Option, Some, None, option_and_then, ℤ, pos, ◌+ℤ◌, ◌-ℤ◌, ◌*ℤ◌}
+use Rattle.std.specs.Prelude.{ℕ, ◌/◌, ◌%◌, Option, Some, None, option_and_then, ℤ, pos, ◌+ℤ◌, ◌-ℤ◌, ◌*ℤ◌}
 use Rattle.interim.specs.declared.types.TimeSpec.{TimeSpec}
 use Rattle.interim.specs.Refusal.{Ends, within}
 use Rattle.interim.specs.DatesAndTimes.{time_at, with_micros}

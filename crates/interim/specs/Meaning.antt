@@ -1,5 +1,5 @@
 -- The meaning of a phrase's parts from a base (docs/GRAMMAR.md, "The meaning").
-use Rattle.std.specs.Prelude.{◌≡◌, ◌⊎◌, ℕ, ◌*◌, ◌<◌, false, IsTrue, if◌then◌else◌, Option, Some, None, ℤ, pos, ◌+ℤ◌, ◌*ℤ◌}
+use Rattle.std.specs.Prelude.{◌≡◌, ◌⊎◌, ℕ, ◌<◌, false, IsTrue, if◌then◌else◌, Option, Some, None, ℤ, pos, ◌+ℤ◌, ◌*ℤ◌}
 use Rattle.civil.specs.Shown.{Shows}
 use Rattle.zoned.specs.Placing.{IsPlaced}
 use Rattle.interim.specs.declared.types.Dialect.{Dialect}

@@ -1,5 +1,5 @@
 -- Days by their names, from a base (docs/GRAMMAR.md, "The meaning").
-use Rattle.std.specs.Prelude.{◌≡◌, ℕ, ◌*◌, if◌then◌else◌, Option, Some, None, option_and_then, ℤ, pos, ◌+ℤ◌, ◌-ℤ◌, ◌*ℤ◌}
+use Rattle.std.specs.Prelude.{◌≡◌, ℕ, if◌then◌else◌, Option, Some, None, option_and_then, ℤ, pos, ◌+ℤ◌, ◌-ℤ◌, ◌*ℤ◌}
 use Rattle.std.specs.Ordering.{int_cmp, int_eq}
 use Rattle.civil.specs.Calendar.{weekday_of}
 use Rattle.interim.specs.declared.types.Dialect.{Dialect}

@@ -2,7 +2,7 @@
 use Rattle.std.specs.Prelude.{◌≡◌, ℕ, Bool, true, false, List, Option, Some, None, Result, Ok, Err, if◌then◌else◌}
 use Rattle.interim.specs.declared.errors.DateError.{DateError}
 use Rattle.interim.specs.declared.errors.Expected.TheVariants as expected
-use Rattle.interim.specs.TokenKinds.{Token, Kind, Number, Dash}
+use Rattle.interim.specs.TokenKinds.{Token, Kind}
 use Rattle.interim.specs.Steps.{Outcome, Step, ◌>>=◌, pure, stop}
 use Rattle.interim.specs.NextTokens.{after_token, next, next_kind, fault_at, given}
 use Rattle.interim.specs.TokenTests.{number_at, number_in, dash_at, sees}

@@ -1,5 +1,5 @@
 -- The keys of a table, gone through one after the other.
-use Rattle.std.proofs.Common.{◌≡◌, ℕ, ◌+◌, ◌<◌, Bool, true, false, cond, List, [], ◌∷◌, ◌++◌, length, drop, get_or, Option, Some, None, inl, inr, refl, ◌∙◌, Bor, append_assoc, arith}
+use Rattle.std.proofs.Common.{◌≡◌, ℕ, ◌+◌, ◌<◌, true, false, List, [], ◌∷◌, ◌++◌, length, drop, get_or, Option, Some, None, inl, inr, refl, ◌∙◌, Bor, append_assoc, arith}
 use Rattle.std.specs.Prelude.{map}
 use Rattle.std.specs.Str.{bytes_eq}
 use Rattle.std.proofs.lemmas.Bool.{and_parts, and_from, false≢true}
@@ -7,7 +7,7 @@ use Rattle.std.proofs.lemmas.List.{at_drop_more}
 use Rattle.std.proofs.lemmas.Slice.Eq.{bytes_eq-Decides}
 use Rattle.resb_tree.specs.Keys.{stands_in}
 use Rattle.resb_tree.specs.Weight.{sum_of}
-use Rattle.resb.specs.Pool.{all_in, bare, place_of, place_told}
+use Rattle.resb.specs.Pool.{all_in, bare, place_told}
 use Rattle.resb.specs.BadKeys.{is_key, all_keys}
 use Rattle.resb.specs.WrittenFiles.{most_of}
 use Rattle.resb.proofs.Pools.{if_cases, unplaced_key}

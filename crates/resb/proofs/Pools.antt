@@ -1,5 +1,5 @@
 -- A pool of keys: where a key of it begins, and what it is once all keys are met.
-use Rattle.std.proofs.Common.{◌≡◌, ℕ, zero, suc, ◌+◌, ◌<◌, ◌≤◌, Bool, true, false, cond, List, [], ◌∷◌, ◌++◌, length, ◌⊎◌, inl, inr, Option, Some, None, refl, ap, sym, ◌∙◌, Bor, max, append_assoc, arith}
+use Rattle.std.proofs.Common.{◌≡◌, ℕ, zero, suc, ◌+◌, ◌≤◌, Bool, true, false, cond, List, [], ◌∷◌, ◌++◌, length, ◌⊎◌, inl, inr, Option, Some, None, refl, ap, sym, ◌∙◌, Bor, max, append_assoc, arith}
 use Rattle.std.specs.Prelude.{nat_lt, is_some, slice_get}
 use Rattle.std.specs.Option.{option_copied}
 use Rattle.std.specs.BTreeMap.{BTreeMap, get_by, UpdatesBy}

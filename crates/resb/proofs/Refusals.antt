@@ -1,7 +1,7 @@
 -- Why there is no array or table of the last trees of a row.
-use Rattle.std.proofs.Common.{◌≡◌, ℕ, ◌+◌, ◌-◌, ◌<◌, true, false, List, [], ◌∷◌, ◌++◌, length, drop, take, sym, ap, ◌∙◌, arith}
+use Rattle.std.proofs.Common.{◌≡◌, ℕ, ◌+◌, ◌-◌, ◌<◌, true, List, [], ◌∷◌, ◌++◌, length, drop, take, sym, ap, ◌∙◌, arith}
 use Rattle.std.proofs.lemmas.List.{length-append, length-map}
-use Rattle.std.specs.Prelude.{map, Result, Ok, Err}
+use Rattle.std.specs.Prelude.{Result, Ok, Err}
 use Rattle.resb_tree.specs.Keys.{distinct, keys_in}
 use Rattle.resb_tree.specs.declared.error.ResbError.{ResbError}
 use Rattle.resb_tree.specs.declared.error.ResbError.TheVariants.{Memory, NoTree, TooLarge, BadKey}
@@ -22,7 +22,7 @@ use Rattle.resb.proofs.LaidSteps.{length-values}
 use Rattle.resb.proofs.PlacedKeys.{names_good}
 use Rattle.resb.proofs.Rooms.{row_items, row_levels}
 use Rattle.resb.proofs.RowParents.{Split}
-use Rattle.resb.proofs.TreeKinds.{IsParent, parent-Array, parent-Table, most_both}
+use Rattle.resb.proofs.TreeKinds.{IsParent, parent-Table, most_both}
 
 pub parent_deep : (d : Draft) (keys : List (List ℕ)) (row xs : List Resource) (t : Resource) (names : List (List ℕ)) (kept : ℕ) (e : ResbError) → IsParent t xs names → Split d keys row xs kept
     → Refuses (most_of (take (length d.levels.items - kept) (drop kept d.levels.items)) < 8) e → Refuses (HasRoom keys (row ++ t ∷ [])) e

@@ -1,18 +1,15 @@
 -- What room is left for in a draft, and why a call of it is refused.
-use Rattle.std.proofs.Common.{◌≡◌, ℕ, ◌+◌, ◌-◌, ◌*◌, ◌<◌, ◌≤◌, ◌≢◌, List, [], ◌∷◌, ◌++◌, length, ap, ◌∙◌, inl, inr, arith}
+use Rattle.std.proofs.Common.{◌≡◌, ℕ, ◌+◌, ◌-◌, ◌*◌, ◌≤◌, ◌≢◌, List, [], ◌∷◌, ◌++◌, length, ap, ◌∙◌, inl, inr, arith}
 use Rattle.std.proofs.lemmas.List.{length-map}
-use Rattle.std.specs.Prelude.{map, Result, Ok, Err, IsErrAnd, IfErr, MatchResult}
+use Rattle.std.specs.Prelude.{map}
 use Rattle.std.proofs.lemmas.Bool.Decides.{leb_tells}
 use Rattle.resb_tree.specs.declared.error.ResbError.{ResbError}
 use Rattle.resb_tree.specs.declared.error.ResbError.TheVariants.{Memory, NoTree, TooLarge, BadKey}
 use Rattle.resb_tree.specs.declared.resource.Resource.{Resource}
-use Rattle.resb_tree.specs.declared.resource.Resource.TheVariants as r
 use Rattle.resb_tree.specs.Weight.{weight, weights}
-use Rattle.resb.specs.Plan.{Fits, FitsAll, most_words, Refuses}
-use Rattle.resb.specs.KeyPlan.{values_in}
+use Rattle.resb.specs.Plan.{Fits, most_words, Refuses}
 use Rattle.resb.specs.Pool.{place_of, words_end}
 use Rattle.resb.specs.LaidTrees.{laid, lay_all}
-use Rattle.resb.specs.WrittenFiles.{most_of}
 use Rattle.resb.specs.Writing.{depth}
 use Rattle.resb.specs.DraftRows.{Holds, HasRoom}
 use Rattle.resb.specs.Drafts.{Unwritten}

@@ -15,7 +15,7 @@ use Rattle.resb.specs.BadKeys.{all_keys, has_bad_key}
 use Rattle.resb.specs.declared.draft.Draft.{Draft}
 use Rattle.resb.specs.Inside.Laying.{IsLaid, Stands}
 use Rattle.resb.specs.DraftRows.{Holds, Row}
-use Rattle.resb.proofs.Rooms.{row_items, row_levels}
+use Rattle.resb.proofs.Rooms.{row_items}
 use Rattle.resb.proofs.Rows.{both_laid, fits_back, front, more, true_parts, none_parts}
 use Rattle.resb.proofs.TreeKinds.{IsParent, most_both, length-lay_all}
 

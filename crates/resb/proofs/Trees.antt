@@ -1,5 +1,5 @@
 -- The words that are written for a tree are read back to it.
-use Rattle.std.proofs.Common.{◌≡◌, ℕ, zero, suc, ◌+◌, ◌/◌, ◌<◌, ◌≤◌, true, false, List, [], ◌∷◌, ◌++◌, length, length-append, refl, ap, sym, ◌∙◌, subst, lit<, arith}
+use Rattle.std.proofs.Common.{◌≡◌, ℕ, zero, suc, ◌+◌, ◌<◌, ◌≤◌, true, false, List, [], ◌∷◌, ◌++◌, length, length-append, sym, ◌∙◌, subst, lit<, arith}
 use Rattle.std.specs.Prelude.{slice_index, map}
 use Rattle.std.proofs.lemmas.Bool.{and_parts, or_parts, not-false, ltb-false}
 use Rattle.resb_tree.specs.declared.resource.Resource.{Resource}
@@ -10,7 +10,7 @@ use Rattle.resb_tree.specs.Tree.{by_type, tree_at}
 use Rattle.resb_tree.specs.Arrays.{array_at}
 use Rattle.resb_tree.specs.Tables.{table16_at}
 use Rattle.resb.specs.Packing.{pack_units}
-use Rattle.resb.specs.LaidTrees.{item, lay_all, array_laid, table_laid, laid}
+use Rattle.resb.specs.LaidTrees.{item, lay_all, laid}
 use Rattle.resb.specs.WrittenFiles.{most_of, most_entries}
 use Rattle.resb.specs.BadKeys.{any_bad, has_bad_key}
 use Rattle.resb.specs.Writing.{depth, has_wide_integer}

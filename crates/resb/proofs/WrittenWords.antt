@@ -1,6 +1,6 @@
 -- The words of a bundle, and when there are none.
-use Rattle.std.proofs.Common.{◌≡◌, ℕ, ◌+◌, ◌*◌, ◌≤◌, Bool, true, false, cond, List, [], ◌∷◌, ◌++◌, length, Option, Some, None, refl, sym, ◌∙◌, append_assoc, arith}
-use Rattle.std.specs.Prelude.{map, nat_lt, ◌||◌, Result, Ok, Err, IfOk, OnOk, IfErr, IsErrAnd}
+use Rattle.std.proofs.Common.{◌≡◌, ℕ, ◌+◌, ◌*◌, ◌≤◌, true, false, List, [], ◌∷◌, ◌++◌, length, Some, refl, arith}
+use Rattle.std.specs.Prelude.{map, nat_lt, Result, Ok, Err, IfOk, OnOk, IfErr, IsErrAnd}
 use Rattle.std.proofs.lemmas.Bool.{both_ways, le-ltb, ltb-false, or_parts, true_from_ne_false}
 use Rattle.std.proofs.lemmas.List.{length-append}
 use Rattle.resb_tree.specs.declared.error.ResbError.{ResbError}
@@ -13,7 +13,7 @@ use Rattle.resb.specs.KeyPlan.{pooled, Fills}
 use Rattle.resb.specs.Plan.{Fits, Refuses, keys_end, most_words}
 use Rattle.resb_tree.specs.Weight.{weight}
 use Rattle.resb.specs.Packing.{pack_bytes}
-use Rattle.resb.specs.TreeKeys.{pool_bytes, key_pool, keys_met, first_keys}
+use Rattle.resb.specs.TreeKeys.{pool_bytes, key_pool, keys_met}
 use Rattle.resb.specs.Writing.{places_of, depth, has_wide_integer, is_too_large, writing, Writes}
 use Rattle.resb.specs.WrittenFiles.{most_of, most_entries, header, written_body, written}
 use Rattle.resb.specs.BadKeys.{has_bad_key, all_keys}

@@ -1,5 +1,5 @@
 -- The pool into which the keys of a tree are put (docs/FORMATS.md, "The writer").
-use Rattle.std.specs.Prelude.{◌≡◌, ℕ, ◌+◌, List, [], ◌∷◌, ◌++◌, map, Option, Some, None, Result, Ok, Err, if◌then◌else◌, nat_lt}
+use Rattle.std.specs.Prelude.{◌≡◌, ℕ, List, [], ◌∷◌, ◌++◌, map, Option, Some, None, Result, Ok, Err, if◌then◌else◌, nat_lt}
 use Rattle.resb_tree.specs.Keys.{stands_in}
 use Rattle.resb.specs.Pool.{bare, place_of, pool_end}
 use Rattle.resb_tree.specs.Bodies.{◌>>=◌}

@@ -1,5 +1,5 @@
 -- Where the wall seconds of a lawful zone lie, as laws (docs/ZONES.md, "Placement").
-use Rattle.std.specs.Prelude.{◌≡◌, ◌⊎◌, ℕ, ◌+◌, ◌<◌, Some, IfSome, ℤ, pos, ◌+ℤ◌, ◌-ℤ◌, ◌<ℤ◌, ◌≤ℤ◌}
+use Rattle.std.specs.Prelude.{◌≡◌, ◌⊎◌, ℕ, ◌+◌, Some, IfSome, ℤ, pos, ◌+ℤ◌, ◌-ℤ◌, ◌<ℤ◌, ◌≤ℤ◌}
 use Rattle.civil.specs.Calendar.{year_second}
 use Rattle.timeline.specs.declared.offset.PossibleOffset.{PossibleOffset}
 use Rattle.timeline.specs.Zone.{PlainZone, PlainRule}

@@ -1,5 +1,5 @@
 -- What a zone answers for a wall second (docs/ZONES.md, "Zones of `zoned`").
-use Rattle.std.specs.Prelude.{◌≡◌, None, ℤ}
+use Rattle.std.specs.Prelude.{◌≡◌, ℤ}
 use Rattle.civil.specs.Shown.{IsShownOnce, IsShownTwice}
 use Rattle.zoned.specs.Placing.{before, IsSkippedAt}
 use Rattle.zoned.specs.declared.offset.MappedLocalTime.{MappedLocalTime}

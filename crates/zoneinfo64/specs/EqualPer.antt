@@ -1,6 +1,5 @@
 -- Equality of zones holds both ways round, and along a chain (docs/ZONES.md, "Equal zones").
-use Rattle.std.specs.Prelude.{nat_eq, ℤ}
-use Rattle.std.specs.Ordering.{int_eq}
+use Rattle.std.specs.Prelude.{ℤ}
 use Rattle.std.specs.Cmp.{IsPartialEquivalence, IsEquivalence, partial_equiv_from_equiv, on_equiv, and_equiv, nat_eq_equiv, int_eq_equiv}
 use Rattle.std.specs.Cmp.Lexicographic.{lists_equiv, options_equiv}
 use Rattle.timeline.specs.Zone.{DateRule, PlainRule, PlainZone}

@@ -1,4 +1,4 @@
-use Rattle.std.proofs.Common.{◌≡◌, ◌≤◌, ◌+◌, ◌++◌, length, vec_len, map}
+use Rattle.std.proofs.Common.{◌≡◌, ◌≤◌, ◌+◌, ◌++◌, length, vec_len}
 use Rattle.std.specs.Prelude.{vec_capacity}
 use Rattle.zoneinfo64.specs.Inside.Steps.{wide}
 use Rattle.zoneinfo64.proofs.fields.push_wide.Given as goal

@@ -1,4 +1,4 @@
-use Rattle.std.proofs.Common.{rules, ◌≡◌, ◌+◌, [], ◌++◌, length, refl, arith}
+use Rattle.std.proofs.Common.{rules, ◌≡◌, [], ◌++◌, length, refl, arith}
 use Rattle.std.specs.Prelude.{vec_len}
 use Rattle.resb_tree.specs.declared.resource.Resource.TheVariants as r
 use Rattle.resb.specs.Pool.{place_of}

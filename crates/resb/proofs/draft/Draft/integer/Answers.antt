@@ -1,4 +1,4 @@
-use Rattle.std.proofs.Common.{◌∙◌, ◌+◌, sym, arith}
+use Rattle.std.proofs.Common.{◌∙◌, sym, arith}
 use Rattle.std.proofs.lemmas.Bool.{ltb-false}
 use Rattle.resb_tree.specs.declared.resource.Resource.TheVariants as r
 use Rattle.resb.proofs.LaidWords.{err_on}

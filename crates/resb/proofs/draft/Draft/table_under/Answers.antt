@@ -1,4 +1,4 @@
-use Rattle.std.proofs.Common.{rules, ◌≡◌, ◌+◌, ◌≤◌, ◌∷◌, ◌++◌, length, arith}
+use Rattle.std.proofs.Common.{rules, ◌≡◌, ◌≤◌, ◌∷◌, ◌++◌, length, arith}
 use Rattle.std.specs.Prelude.{map, vec_len}
 use Rattle.std.proofs.lemmas.List.{length-map}
 use Rattle.resb_tree.specs.declared.error.ResbError.TheVariants.{TooLarge}

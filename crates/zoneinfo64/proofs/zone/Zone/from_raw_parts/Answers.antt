@@ -1,4 +1,4 @@
-use Rattle.std.proofs.Common.{◌≡◌, ◌<◌, length, arith}
+use Rattle.std.proofs.Common.{◌<◌, length, arith}
 use Rattle.zoneinfo64.proofs.Names.{zone-within}
 use Rattle.zoneinfo64.proofs.zone.Zone.from_raw_parts.Goals as goal
 
