@@ -10,6 +10,7 @@ use Rattle.resb_tree.specs.Bodies.{◌>>=◌, Body}
 use Rattle.resb_tree.specs.Tables.{key_from, key_at}
 use Rattle.resb_tree.specs.Inside.Places.{key_there, IsKey}
 use Rattle.resb_tree.specs.Inside.Checks.{keys_there}
+use Rattle.resb_tree.proofs.Held.{held_first, held_next}
 use Rattle.resb_tree.proofs.Runs.{run_push, run_grow}
 
 key_rest : (byte : ℕ → ℕ) (place more : ℕ) (key : List ℕ) → key_from byte place (suc more) ≡ Some key → byte place ≢ 0
@@ -99,7 +100,7 @@ bytes_end b at i bytes h le = rw (drop_all i bytes le, key_form b at h) (by (eqb
     by false = refl
 
 -- what compares keys, and what copies one
-pub ruleset key_steps = (key_low, key_next, keys_next, bytes_next, bytes_end, nat_tests)
+pub ruleset key_steps = (held_first, held_next, key_low, key_next, keys_next, bytes_next, bytes_end, nat_tests)
 
 pub ruleset key_bytes = (key_low, key_ends, key_next, key_whole, run_grow, append_assoc, append-nil)
 

@@ -1,5 +1,6 @@
 mod Weights
 mod Runs
+mod Held
 mod Scans
 mod Spans
 mod KeySets

@@ -12,28 +12,32 @@ use crate::forms::TableForm;
 use crate::key::Key;
 use crate::keys::many_distinct;
 use crate::places::entry_at;
-use crate::words::{byte_at, bytes_after, bytes_from, bytes_on};
+use crate::words::{byte_at, bytes_from, four_bytes};
 use sqlite_items::Items;
 use std::alloc::{AllocError, Global};
 
 /// Up to so many entries, each key is compared with each.
 const FEW: usize = 16;
 
-/// Whether the key at a place has these bytes.
+/// Whether the key at a place has these bytes. Of bytes that are known where it is called, as the names of fields are, no
+/// loop is left.
 #[tactic(auto, using(crate::proofs::KeyPlaces::key_steps))]
+#[inline(always)]
 pub fn key_is(body: &BodyWords<'_>, place: usize, bytes: &[u8]) -> bool
     requires { IsKey (told body.now) place }
     ensures { result ≡ bytes_eq (key_there (told body.now) place) bytes.now }
 {
-    let mut at = place;
-    let mut left = bytes_on(body.words, place);
-    for wanted in bytes {
+    let mut left = four_bytes(body.words, place);
+    for i in 0..bytes.len() {
         let byte = (left % 256) as u8;
-        if byte == 0 || byte != *wanted {
+        if byte == 0 || byte != bytes[i] {
             return false;
         }
-        left = bytes_after(body.words, at, left);
-        at += 1;
+        left = if i % 4 == 3 {
+            four_bytes(body.words, place + i + 1)
+        } else {
+            left / 256
+        };
     }
     left % 256 == 0
 }

@@ -245,6 +245,7 @@ impl<'a> BytesRef<'a> {
 
 impl<'a> KeyRef<'a> {
     /// Whether it has these bytes.
+    #[inline(always)]
     pub fn is(&self, bytes: &[u8]) -> bool
         ensures { result ≡ bytes_eq self.now bytes.now }
     {

@@ -1,37 +1,35 @@
 ghost use Rattle.std.specs.Prelude.{◌≡◌, ℕ, ◌+◌, ◌*◌, ◌/◌, ◌%◌, ◌<◌, ◌≤◌, ◌++◌, length, slice_index, take, IfOk, vec_len, vec_capacity};
 ghost use Rattle.resb_tree.specs.Words.{run, unit_in, byte_in};
-ghost use Rattle.resb_tree.specs.Inside.Bytes.{AreBytesOn};
+ghost use Rattle.resb_tree.specs.Inside.Bytes.{HoldBytes};
 
 use sqlite_items::Items;
 use std::alloc::{AllocError, Global};
-
-/// The bytes of a word from the one at a place on, which is the lowest of them.
-pub fn bytes_on(words: &[u32], at: usize) -> u32
-    requires { at < 4 * length words.now }
-    ensures { AreBytesOn words.now at result }
-{
-    words[at / 4] >> (8 * (at % 4) as u32)
-}
-
-/// The same at the next place, by those at this one.
-pub fn bytes_after(words: &[u32], at: usize, bytes: u32) -> u32
-    requires within { at + 1 < 4 * length words.now }
-    requires bytes { AreBytesOn words.now at bytes }
-    ensures { AreBytesOn words.now (at + 1) result }
-{
-    if at % 4 == 3 {
-        words[at / 4 + 1]
-    } else {
-        bytes / 256
-    }
-}
 
 /// The byte at a place, low bytes of a word first.
 pub fn byte_at(words: &[u32], at: usize) -> u8
     requires { at < 4 * length words.now }
     ensures { result ≡ byte_in words.now at }
 {
-    (bytes_on(words, at) % 256) as u8
+    ((words[at / 4] >> (8 * (at % 4) as u32)) % 256) as u8
+}
+
+/// The word at a place, zero behind the last one.
+#[tactic(auto, using(std::proofs::lemmas::List::get_or_past))]
+fn word_at(words: &[u32], at: usize) -> u32
+    ensures { result ≡ slice_index words.now at }
+{
+    if at < words.len() { words[at] } else { 0 }
+}
+
+/// Four bytes from a place on, the one there lowest. Zeros stand for those behind the last word.
+#[inline(always)]
+pub fn four_bytes(words: &[u32], at: usize) -> u32
+    requires { at < 4 * length words.now }
+    ensures { HoldBytes words.now at 4 result }
+{
+    let low = u64::from(words[at / 4]);
+    let high = u64::from(word_at(words, at / 4 + 1));
+    (((low + high * 4_294_967_296) >> (8 * (at % 4) as u32)) % 4_294_967_296) as u32
 }
 
 /// The 16-bit unit at a place, the low unit of a word first.

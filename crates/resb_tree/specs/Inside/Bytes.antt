@@ -1,8 +1,8 @@
--- The bytes of a word that are still to be read.
-use Rattle.std.specs.Prelude.{◌≡◌, ℕ, ◌*◌, ◌/◌, ◌%◌, ◌^◌, List, slice_index}
+-- The bytes that a number holds, the first of them lowest.
+use Rattle.std.specs.Prelude.{◌≡◌, ℕ, zero, suc, ◌+◌, ◌/◌, ◌%◌, List, ⊤}
 use Rattle.resb_tree.specs.Words.{byte_in}
 
--- the bytes of its word from a place on, the one there lowest
-pub record AreBytesOn (words : List ℕ) (at bytes : ℕ) : Type 0 where
-  pub word : bytes ≡ slice_index words (at / 4) / 2 ^ (8 * (at % 4))
-  pub first : bytes % 256 ≡ byte_in words at
+-- so many bytes of the words, from a place on
+abbrev pub HoldBytes : List ℕ → ℕ → ℕ → ℕ → Type 0
+HoldBytes words at zero number = ⊤
+HoldBytes words at (suc count) number = (number % 256 ≡ byte_in words at) × HoldBytes words (at + 1) count (number / 256)
