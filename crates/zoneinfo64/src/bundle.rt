@@ -3,8 +3,8 @@ ghost use Rattle.std.specs.Prelude.{◌≡◌, ◌<◌, ◌++◌, ◌∷◌, [],
 ghost use Rattle.zoneinfo64.specs.NamedZone.{zone_at};
 ghost use Rattle.resb_tree.specs.Header.{tree_of};
 ghost use Rattle.zoneinfo64.specs.Bundle.{rises, is_resolved, all_resolved, array_in, table_in, are_arrays, checked_zones, zone_list, zones_of_words};
-ghost use Rattle.zoneinfo64.specs.ZoneNames.{place_of, named_zone, named_zones};
-ghost use Rattle.zoneinfo64.specs.Inside.Steps.{Reads, with_next, is_before};
+ghost use Rattle.zoneinfo64.specs.ZoneNames.{named_zones, named_zone};
+ghost use Rattle.zoneinfo64.specs.Inside.Steps.{Reads, with_next, is_before, own_zone};
 ghost use Rattle.zoneinfo64.specs.Inside.RuleView.{rule_for};
 ghost use Rattle.zoneinfo64.specs.Inside.ZoneList.{zones_of, named_of, place_of_item, AreEntries};
 
@@ -17,7 +17,8 @@ use crate::zone::{Item, Named, ZoneInfo64};
 use resb_tree::{Bundle, EntriesRef, ItemsRef, ResbError, ResourceRef, TextRef};
 use std::alloc::{AllocError, Global};
 
-/// Appends an entry of a name.
+/// Appends an entry of a name. It is made where it is called, so that a zone's data is moved once.
+#[inline(always)]
 fn push_entry(
     alloc: Global,
     name: &TextRef<'_>,
@@ -39,8 +40,32 @@ fn push_entry(
     }
 }
 
-/// Appends one zone with its name and region. An alias goes a way of its own, so that no room for a
-/// zone is moved for it.
+/// Appends a zone that is no alias. Apart, so that no room for a zone is cleared where there is none.
+#[inline(never)]
+fn push_zone(
+    alloc: Global,
+    rules: &Rules,
+    zone: &ResourceRef<'_>,
+    name: &TextRef<'_>,
+    region: Region,
+    entries: &mut Vec<Named>,
+) -> Result<(), BinaryDeserializerError>
+    requires { vec_len entries.old < vec_capacity entries.old }
+    ensures zones { Reads (λ u. zones_of entries.new.items) result
+        (with_next (zones_of entries.old.items)
+        (own_zone (rule_for rules.now) zone.now name.now region)) }
+    ensures room { IfOk result (λ u. vec_capacity entries.new ≡ vec_capacity entries.old) }
+{
+    match zone_data(alloc, rules, zone) {
+        Ok(data) => {
+            push_entry(alloc, name, region, Item::Zone(data), entries)?;
+            Ok(())
+        }
+        Err(error) => Err(error),
+    }
+}
+
+/// Appends one zone with its name and region.
 #[tactic(auto, unfolding(crate::specs::ZoneNames::named_zone, crate::specs::ZoneNames::place_of))]
 fn push_named(
     alloc: Global,
@@ -69,13 +94,7 @@ fn push_named(
         push_entry(alloc, &name, region, Item::Alias(place), entries)?;
         return Ok(());
     }
-    match zone_data(alloc, rules, zone) {
-        Ok(data) => {
-            push_entry(alloc, &name, region, Item::Zone(data), entries)?;
-            Ok(())
-        }
-        Err(error) => Err(error),
-    }
+    push_zone(alloc, rules, zone, &name, region, entries)
 }
 
 /// The zones of three arrays, read side by side.

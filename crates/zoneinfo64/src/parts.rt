@@ -1,5 +1,6 @@
 //! The fields of a zone, found in one pass over the entries of its table.
 ghost use Rattle.std.specs.Prelude.{◌≡◌, Some, []};
+ghost use Rattle.std.specs.Str.{bytes_eq};
 ghost use Rattle.zoneinfo64.specs.Inside.ZoneParts.{key_of, field_named, first_or, with_field, parts_in, parts_of};
 
 use resb_tree::{KeyRef, ResourceRef};
@@ -32,23 +33,6 @@ pub struct ZoneParts<'a> {
     pub type_offsets: Option<ResourceRef<'a>>,
 }
 
-/// The key of a field.
-fn key_of(field: Field) -> &'static [u8]
-    ensures { result.now ≡ key_of field }
-{
-    match field {
-        Field::FinalRaw => b"finalRaw",
-        Field::FinalRule => b"finalRule",
-        Field::FinalYear => b"finalYear",
-        Field::Links => b"links",
-        Field::Trans => b"trans",
-        Field::TransPost32 => b"transPost32",
-        Field::TransPre32 => b"transPre32",
-        Field::TypeMap => b"typeMap",
-        Field::TypeOffsets => b"typeOffsets",
-    }
-}
-
 /// The field with a key. Keys that differ from most in their first byte are tried first.
 fn field_named(key: &KeyRef<'_>) -> Option<Field>
     ensures { result ≡ field_named key.now }
@@ -76,11 +60,29 @@ fn field_named(key: &KeyRef<'_>) -> Option<Field>
     }
 }
 
-/// The same, with a guess that is tried before all others.
+/// Whether a key is that of a field.
+#[inline(always)]
+fn is_key_of(key: &KeyRef<'_>, field: Field) -> bool
+    ensures { result ≡ bytes_eq key.now (key_of field) }
+{
+    match field {
+        Field::FinalRaw => key.is(b"finalRaw"),
+        Field::FinalRule => key.is(b"finalRule"),
+        Field::FinalYear => key.is(b"finalYear"),
+        Field::Links => key.is(b"links"),
+        Field::Trans => key.is(b"trans"),
+        Field::TransPost32 => key.is(b"transPost32"),
+        Field::TransPre32 => key.is(b"transPre32"),
+        Field::TypeMap => key.is(b"typeMap"),
+        Field::TypeOffsets => key.is(b"typeOffsets"),
+    }
+}
+
+/// The field with a key, with a guess that is tried before all others.
 fn field_by(key: &KeyRef<'_>, guess: Field) -> Option<Field>
     ensures { result ≡ field_named key.now }
 {
-    if key.is(key_of(guess)) {
+    if is_key_of(key, guess) {
         Some(guess)
     } else {
         field_named(key)

@@ -11,6 +11,7 @@ use Rattle.timeline.specs.Table.{PlainSeconds}
 use Rattle.timeline.specs.Zone.{RawRule}
 use Rattle.zoneinfo64.specs.Inside.RuleView.{rule_for}
 use Rattle.zoneinfo64.specs.NamedZone.{NamedZone, name_text}
+use Rattle.zoneinfo64.specs.ZoneNames.{place_by}
 use Rattle.zoneinfo64.specs.RuleDates.{as_i32}
 use Rattle.zoneinfo64.specs.RuleFields.{raw_rule, rule_named}
 use Rattle.zoneinfo64.specs.declared.error.BinaryDeserializerError.{BinaryDeserializerError}
@@ -83,3 +84,9 @@ AreKnown pairs seconds numbers = (length numbers ≡ length seconds) × All (λ 
 -- the name of the first comes before that of the second
 abbrev pub is_before : NamedZone → NamedZone → Bool
 is_before a b = is_lt (slice_cmp nat_cmp (name_text a.name) (name_text b.name))
+
+-- ---- zones
+
+-- what stands in the array of zones, which is no alias, with its name and region
+abbrev pub own_zone : (List ℕ → Option RawRule) → Resource → List ℕ → List ℕ → Option NamedZone
+own_zone find zone units code = place_by None find zone >>= λ place. Some (record { name = units; region = code; place = place })
