@@ -53,11 +53,21 @@ all_keys_met law n h = some_keys law (up_to (λ k. k) n) (omega (arith, length_u
 
 -- ---- the row
 
+-- a draft holds so many trees more than it held
+abbrev pub Grows : (ℕ → Resource) → Draft → Draft → ℕ → Type 0
+Grows f old new n = (keys : List (List ℕ)) (row : List Resource) → Holds old keys row → Holds new keys (row ++ up_to f n)
+
 up_to_next : (f : ℕ → Resource) (n : ℕ) → up_to f n ++ f (n + 1) ∷ [] ≡ up_to f (n + 1)
 up_to_next f n = let e : n + 1 ≡ suc n = omega arith in sym (ap (λ (k : ℕ). up_to f k) e)
 
-pub holds_next : (d : Draft) (keys : List (List ℕ)) (row : List Resource) (f : ℕ → Resource) (n : ℕ) → Holds d keys ((row ++ up_to f n) ++ f (n + 1) ∷ []) → Holds d keys (row ++ up_to f (n + 1))
-holds_next d keys row f n h = subst (λ (trees : List Resource). Holds d keys trees) (append_assoc row (up_to f n) (f (n + 1) ∷ []) ∙ ap (λ (trees : List Resource). row ++ trees) (up_to_next f n)) h
+-- and with the next tree one more
+pub grows : (f : ℕ → Resource) (old now new : Draft) (n : ℕ) → Grows f old now n
+    → ((keys : List (List ℕ)) (row : List Resource) → Holds now keys row → Holds new keys (row ++ f (n + 1) ∷ []))
+    → Grows f old new (n + 1)
+grows f old now new n held puts keys row h = rw (← up_to_next f n, ← append_assoc) (puts keys _ (held keys row h))
 
-pub holds_all : (d : Draft) (keys : List (List ℕ)) (row : List Resource) (f : ℕ → Resource) (n count : ℕ) → n ≡ count → Holds d keys (row ++ up_to f n) → Holds d keys (row ++ up_to f count)
-holds_all d keys row f n count e h = subst (λ (k : ℕ). Holds d keys (row ++ up_to f k)) e h
+-- all of them become an array
+pub all_grown : (f : ℕ → Resource) (old now new : Draft) (n count : ℕ) → n ≡ count → Grows f old now n
+    → ((keys : List (List ℕ)) (row items : List Resource) → length items ≡ count → Holds now keys (row ++ items) → Holds new keys (row ++ r.Array items ∷ []))
+    → (keys : List (List ℕ)) (row : List Resource) → Holds old keys row → Holds new keys (row ++ r.Array (up_to f count) ∷ [])
+all_grown f old now new n count all held puts keys row h = puts keys row _ (length_up_to f count) (rw all at held keys row h)

@@ -1,14 +1,10 @@
-use Rattle.std.proofs.Common.{◌≡◌, ◌++◌, arith}
-use Rattle.tell.specs.LoadZones.{up_to}
+use Rattle.std.proofs.Common.{arith}
 use Rattle.tell.specs.Inside.LoadTree.{zone_tree}
-use Rattle.tell.proofs.LoadDraft.{length_up_to, holds_next, holds_all}
+use Rattle.tell.proofs.LoadDraft.{grows, all_grown}
 use Rattle.tell.proofs.large.tell_zones.Goals as goal
 
 pub loop-number-preserved : goal.loop-number-preserved
-loop-number-preserved c = λ keys row h.
-    holds_next c.tell_zone.new.draft keys row zone_tree c.loop-number.number (c.in_ok-tell_zone.ensures keys (row ++ up_to zone_tree c.loop-number.number) (c.loop-number.invariant keys row h))
+loop-number-preserved c = grows zone_tree c.args.draft.now c.loop-number.draft c.tell_zone.new.draft c.loop-number.number c.loop-number.invariant c.in_ok-tell_zone.ensures
 
 pub returns : goal.returns
-returns c =
-    let n : c.loop-number.number ≡ c.args.count = omega arith in
-    λ keys row h. c.in_ok-array.ensures keys row (up_to zone_tree c.args.count) (length_up_to zone_tree c.args.count) (holds_all c.loop-number.draft keys row zone_tree c.loop-number.number c.args.count n (c.loop-number.invariant keys row h))
+returns c = all_grown zone_tree c.args.draft.now c.loop-number.draft c.array.new.self c.loop-number.number c.args.count (omega arith) c.loop-number.invariant c.in_ok-array.ensures
