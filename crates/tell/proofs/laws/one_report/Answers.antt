@@ -1,6 +1,5 @@
-use Rattle.tell.specs.ReplyTexts.{IsReply}
 use Rattle.tell.proofs.OneAnswer.{one_report}
 use Rattle.tell.proofs.laws.one_report.Goals as goal
 
 pub returns : goal.returns
-returns c = λ speech zones. one_report (IsReply speech zones) (c.one_reply.ensures speech zones)
+returns c = λ speech zones. one_report _ (c.one_reply.ensures speech zones)
