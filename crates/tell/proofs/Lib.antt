@@ -7,7 +7,6 @@ mod MomentTexts
 mod FoundMoments
 mod LoadZones
 mod LoadDraft
-mod LoadReports
 mod Tallies
 mod RunLemmas
 mod OneAnswer

@@ -17,37 +17,29 @@ use Rattle.tell.specs.Run.{planned}
 use Rattle.tell.specs.Reports.{IsReplyWith}
 use Rattle.tell.specs.declared.program.Command.TheVariants.{At}
 
-over_limit : (b : List ℕ) → 4194304 < length b → bundle_zones b ≡ None
-unfolding bundle_zones bundle_words
-over_limit b h = rw (lt-ltb 4194304 (length b) h) refl
-
 -- a bundle over the limit gives no zones
 pub bundle_over : (bundle : Option (List ℕ)) → TookMore bundle 4194304 → IfSome bundle (λ b. bundle_zones b ≡ None)
+unfolding bundle_zones bundle_words
 bundle_over None long = tt
-bundle_over (Some b) long = over_limit b long
+bundle_over (Some b) long = rw (lt-ltb 4194304 (length b) long) refl
 
 pub ends_by_bundle : (l : AnyLanguage) (bundle input : Option (List ℕ)) → IfSome bundle (λ b. bundle_zones b ≡ None) → EndsBy (planned (Some (At l)) bundle input) Bundle
 ends_by_bundle l None input none = tt
 ends_by_bundle l (Some b) input none = rw none refl
 
--- the bytes that were read to the end are the bundle, where it is told
-all_read : (all rest bytes : List ℕ) → all ≡ bytes ++ rest → rest ≡ [] → all ≡ bytes
-all_read all rest bytes took end = took ∙ ap (λ (l : List ℕ). bytes ++ l) end ∙ append-nil bytes
-
--- so the zones that were read are those of the bundle
+-- the zones that were read are those of the bundle, where it is told
 pub zones_there : (bundle bundle' : Option (List ℕ)) (bytes : List ℕ) (zones : List NamedZone) → Consumes bundle bundle' bytes → IsAtEnd bundle' → bundle_zones bytes ≡ Some zones
     → IfSome bundle (λ b. bundle_zones b ≡ Some zones)
 zones_there None bundle' bytes zones took end is = tt
 zones_there (Some all) None bytes zones took end is = absurd took
-zones_there (Some all) (Some rest) bytes zones took end is = ap bundle_zones (all_read all rest bytes took end) ∙ is
+zones_there (Some all) (Some rest) bytes zones took end is = rw (took, end, append-nil) is
 
 -- what stands after a run over the input stands after the command, in the zones of the bundle that was read
 pub stands_in_zones : (speech : Speech) (bundle : Option (List ℕ)) (zones : List NamedZone) (status : Status) (a b u v : Option (List ℕ))
     → IfSome bundle (λ all. bundle_zones all ≡ Some zones) → Stands (IsReply speech zones) status a b u v
     → IfSome bundle (λ all. Stands (IsReplyWith speech (bundle_zones all)) status a b u v)
 stands_in_zones speech None zones status a b u v is stands = tt
-stands_in_zones speech (Some all) zones status a b u v is stands =
-    subst (λ (o : Option (List NamedZone)). Stands (IsReplyWith speech o) status a b u v) (sym is) stands
+stands_in_zones speech (Some all) zones status a b u v is stands = rw is stands
 
 -- ---- the words of a command, by how many they are
 
@@ -62,10 +54,7 @@ module _ {T : Type 0} (bytes : T → List ℕ) where
   two_are (a ∷ b ∷ []) name word few many p q = rw (p, q) refl
   two_are args name word few many p q = absurd (omega arith)
 
-  pub none_are_few : (args : List T) → length args < 2 → command_of (map bytes args) ≡ None
-  none_are_few (a ∷ b ∷ args) few = absurd (omega arith)
-  none_are_few args few = refl
-
-  pub none_are_many : (args : List T) → 3 < length args → command_of (map bytes args) ≡ None
-  none_are_many (a ∷ b ∷ d ∷ f ∷ args) many = refl
-  none_are_many args many = absurd (omega arith)
+  pub none_are : (args : List T) → (length args ≡ 2 → ⊥) → (length args ≡ 3 → ⊥) → command_of (map bytes args) ≡ None
+  none_are (a ∷ b ∷ []) two three = absurd (two refl)
+  none_are (a ∷ b ∷ d ∷ []) two three = absurd (three refl)
+  none_are args two three = refl

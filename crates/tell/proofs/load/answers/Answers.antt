@@ -1,6 +1,9 @@
-use Rattle.tell.proofs.LoadReports.{load_reported}
+use Rattle.std.proofs.Common.{refl}
+use Rattle.tell.proofs.LoadZones.{load_zones_there}
 use Rattle.tell.proofs.load.answers.Goals as goal
 
 pub returns-in-Done : goal.returns-in-Done
 returns-in-Done c =
-    load_reported c.args.lines c.new-bundle.result c.at.new.bundle c.new-input.result c.at.new.input c.in_ok-answers.answers c.at.new.output _ _ _ _ _ _ c.new-bundle.ensures c.new-input.ensures c.in_ok-answers.ensures c.in_ok-bundle.ensures c.in_ok-input.ensures (c.at.ensures.done c.in-Done.is)
+    let reported = rw (c.new-bundle.ensures, c.new-input.ensures, c.in_ok-answers.ensures) at c.at.ensures.done c.in-Done.is in
+    let (zones, report, there, told, wrote) = reported.gained _ _ refl refl in
+    rw (wrote, ← load_zones_there c.args.lines _ zones c.in_ok-bundle.ensures there, ← c.in_ok-input.ensures) told

@@ -1,5 +1,4 @@
 use Rattle.std.proofs.Common.{rules}
-use Rattle.tongues.specs.Any.{any_speech}
 use Rattle.tell.proofs.RunLemmas.{bundle_over, ends_by_bundle, zones_there, stands_in_zones}
 use Rattle.tell.proofs.program.at.Goals as goal
 
@@ -14,4 +13,4 @@ returns-clause-stands g c =
     let zones = c.in-Ok-zones_of_bytes.zones in
     let there = zones_there _ _ c.in-Ok.bytes.items zones c.in-Ok.ensures.whole c.in-Ok.ensures.end c.in-Ok-zones_of_bytes.ensures.zones in
     let stands = rw c.in-Ok-new.ensures at c.serve.ensures.stands in
-    stands_in_zones (any_speech c.args.language) _ zones _ _ _ _ _ there stands
+    stands_in_zones _ _ zones _ _ _ _ _ there stands

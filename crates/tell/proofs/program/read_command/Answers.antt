@@ -1,5 +1,5 @@
-use Rattle.std.proofs.Common.{string_bytes, sym, ◌∙◌}
-use Rattle.tell.proofs.RunLemmas.{two_are, three_are, none_are_few, none_are_many}
+use Rattle.std.proofs.Common.{string_bytes, arith, sym, ◌∙◌}
+use Rattle.tell.proofs.RunLemmas.{two_are, three_are, none_are}
 use Rattle.tell.proofs.program.read_command.Goals as goal
 
 pub returns-in-len3 : goal.returns-in-len3
@@ -13,7 +13,7 @@ returns-in-len2 c =
     ∙ rw (c.as_str.ensures.value, c.as_str-in-len2.ensures.value) (sym (two_are string_bytes c.args.args.now c.name-item.result c.word-item.result c.in-len2.len_at_least c.in-len2.len_below c.name-item.is c.word-item.is))
 
 pub returns-in_default : goal.returns-in_default
-returns-in_default c = sym (none_are_few string_bytes c.args.args.now c.in_default.len_below)
+returns-in_default c = sym (none_are string_bytes c.args.args.now (λ two. omega arith) (λ three. omega arith))
 
 pub returns-in_default-2 : goal.returns-in_default-2
-returns-in_default-2 c = sym (none_are_many string_bytes c.args.args.now c.in_default.len_at_least)
+returns-in_default-2 c = sym (none_are string_bytes c.args.args.now (λ two. omega arith) (λ three. omega arith))
