@@ -62,27 +62,24 @@ module _ (laws : LawsBelow) (f : LineFields) (base : ℤ) (same : base ≡ f.bas
 -- ---- in the zones of a bundle
 
 module _ (zones : List NamedZone) (f : LineFields) where
-  reply_in : (z : PlainZone) (voices : Voices) (reply : Reply) → named zones f.zone ≡ Some z → IsReplyOf z voices f reply → IsReplyIn voices zones f reply
-  reply_in z voices reply has is = rw has is
-
   pub unknown_found : named zones f.zone ≡ None → Finds zones f (Err error.UnknownZone)
   unknown_found none = λ voices. rw none refl
 
   pub unlawful_found : (fault : ZoneFault) → IsChecked zones f.zone (Some (Err fault)) → Finds zones f (Err (error.Unlawful fault))
   unfolding IsReplyOf
-  unlawful_found fault (z, has, broken) = λ voices. reply_in z voices (Unlawful fault) has (inl (fault, broken, refl))
+  unlawful_found fault (z, has, broken) = λ voices. rw has (inl (fault, broken, refl))
 
   refused_in : (z : PlainZone) (refused : Option Reply) → named zones f.zone ≡ Some z → IsLawful z
       → MatchOption refused ⊥ (λ reply. (voices : Voices) → IsReplyFrom z voices f reply)
       → MatchOption refused ⊥ (λ reply. (voices : Voices) → IsReplyIn voices zones f reply)
   unfolding IsReplyOf
   refused_in z None has lawful found = found
-  refused_in z (Some reply) has lawful found = λ voices. reply_in z voices reply has (inr (lawful, found voices))
+  refused_in z (Some reply) has lawful found = λ voices. rw has (inr (lawful, found voices))
 
   zone_finds : (z : PlainZone) (r : Result Moment TellError) → named zones f.zone ≡ Some z → IsLawful z → FindsFrom z f r → Finds zones f r
   unfolding IsReplyOf
   zone_finds z (Ok m) has lawful (offset, replied) =
-      (z, has, lawful, offset, λ voices t tale. reply_in z voices (Told t) has (inr (lawful, replied voices t tale)))
+      (z, has, lawful, offset, λ voices t tale. rw has (inr (lawful, replied voices t tale)))
   zone_finds z (Err e) has lawful found = refused_in z (refusal e) has lawful found
 
   pub zone_found : (zone : Zone) (r : Result Moment TellError) → IsChecked zones f.zone (Some (Ok zone))
@@ -98,20 +95,16 @@ module _ (zones : List NamedZone) (f : LineFields) where
   error_told e voices found = found voices
 
   module _ (voices : Voices) (line : List ℕ) (is : Some f ≡ fields_of line) where
-    -- the reply to a line that has these fields
-    line_reply : (reply : Reply) → IsReplyIn voices zones f reply → IsReplyTo voices zones line reply
-    line_reply reply said = rw (← is) said
-
     -- the text of a moment that was found
     pub answer_told : (m : Moment) (old new : List ℕ) → Finds zones f (Ok m)
         → Adds (IsMomentText voices f.base m) old new → Adds (IsAnswer voices zones line) old new
     answer_told m old new (z, has, lawful, offset, replied) (added, told, grown) =
         let (t, tale, text) = told z offset in
-        (added, (Told t, line_reply (Told t) (replied voices t tale), text), grown)
+        (added, (Told t, rw (← is) (replied voices t tale), text), grown)
 
     -- and of what is replied in its place
     pub answer_refused : (refused : Option Reply) (old new : List ℕ)
         → MatchOption refused ⊥ (λ reply. (voices : Voices) → IsReplyIn voices zones f reply)
         → ((reply : Reply) → refused ≡ Some reply → new ≡ old ++ reply_text reply) → Adds (IsAnswer voices zones line) old new
     answer_refused None old new found text = absurd found
-    answer_refused (Some reply) old new found text = (reply_text reply, (reply, line_reply reply (found voices), refl), text reply refl)
+    answer_refused (Some reply) old new found text = (reply_text reply, (reply, rw (← is) (found voices), refl), text reply refl)

@@ -24,19 +24,8 @@ use Rattle.tell.specs.BundleZones.{words_of, bundle_words, bundle_zones}
 use Rattle.tell.specs.LoadZones.{up_to, load_offset, fixed_zone, load_zone, load_zones}
 use Rattle.tell.specs.Inside.LoadTree.{zone_tree, name_tree, region_tree, load_tree}
 
--- ---- parts of a tree
-
-out-Table : (v : List (List ℕ × Resource)) → out-Resource (r.Table v) ≡ Resource-F.Table v
-out-Table v = ap out-Resource (sym (rolls-Table v)) ∙ out-roll-Resource (Resource-F.Table v)
-
-out-Array : (v : List Resource) → out-Resource (r.Array v) ≡ Resource-F.Array v
-out-Array v = ap out-Resource (sym (rolls-Array v)) ∙ out-roll-Resource (Resource-F.Array v)
-
-out-Text : (v : List ℕ) → out-Resource (r.Text v) ≡ Resource-F.Text v
-out-Text v = ap out-Resource (sym (rolls-Text v)) ∙ out-roll-Resource (Resource-F.Text v)
-
-out-Integers : (v : List ℕ) → out-Resource (r.Integers v) ≡ Resource-F.Integers v
-out-Integers v = ap out-Resource (sym (rolls-Integers v)) ∙ out-roll-Resource (Resource-F.Integers v)
+-- a tree by its outermost layer
+ruleset layers = (← rolls-Table, ← rolls-Array, ← rolls-Text, ← rolls-Integers, out-roll-Resource)
 
 -- ---- one zone
 
@@ -68,11 +57,11 @@ no_more z = omega (arith, ints)
 
 zone_read : (n : ℕ) → plain_zone_of no_rule (zone_tree n) ≡ Some (fixed_zone (load_offset n))
 unfolding plain_zone_of type_offsets integers_at bytes_at wide_at zone_rule
-zone_read n = simp (out-Table, out-Integers, offset_read n, no_more, offset_fits n) refl
+zone_read n = simp (layers, offset_read n, no_more, offset_fits n) refl
 
 one_named : (n : ℕ) → named_zone no_rule (zone_tree n) (name_tree n) (region_tree n) ≡ Some (load_zone n)
 unfolding named_zone place_of utf16_chars
-one_named n = simp (out-Text, out-Table, zone_read n) refl
+one_named n = simp (layers, simp layers at zone_read n) refl
 
 -- ---- all zones
 
@@ -97,13 +86,11 @@ when_some false b x y e = cc
 
 tree_zones : (n : ℕ) (zones : List NamedZone) → zone_list (load_tree n) ≡ Some zones → zones ≡ load_zones n
 unfolding zone_list checked_zones array_in table_in
-tree_zones n zones e = when_some _ _ _ _ (simp (out-Table, out-Array, zones_named n) at e)
+tree_zones n zones e = when_some _ _ _ _ (simp (layers, zones_named n) at e)
 
 from_words : (over whole : Bool) (words : List ℕ) (zones : List NamedZone) → option_and_then zones_of_words (cond over None (cond whole (Some words) None)) ≡ Some zones
     → zones_of_words words ≡ Some zones
-from_words true whole words zones e = absurd (cc)
-from_words false true words zones e = e
-from_words false false words zones e = absurd (cc)
+from_words over whole words zones e = grind (arith, nat_tests)
 
 -- a bundle whose words denote the tree has these zones, if it has any
 pub load_zones_there : (n : ℕ) (bytes : List ℕ) (zones : List NamedZone) → tree_of (words_of bytes) ≡ Some (load_tree n) → bundle_zones bytes ≡ Some zones → zones ≡ load_zones n

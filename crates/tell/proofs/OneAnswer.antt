@@ -1,11 +1,9 @@
 -- A line has one reply, and lines have one report.
-use Rattle.std.proofs.Common.{◌≡◌, inl, inr, ℕ, ◌*◌, Bool, false, MatchOption, List, [], ◌∷◌, ◌++◌, Option, Some, None, Result, Ok, Err, ℤ, refl, sym, ap, ◌∙◌, subst, codes, unsigned_abs}
-use Rattle.std.proofs.lemmas.Option.{none-some, same_Some}
+use Rattle.std.proofs.Common.{◌≡◌, inl, inr, ℕ, ◌*◌, false, MatchOption, List, [], ◌∷◌, ◌++◌, Option, Some, None, Result, Ok, Err, ℤ, refl, sym, ap, ◌∙◌, subst, codes, unsigned_abs}
 use Rattle.tongues.specs.Speech.{Speech}
 use Rattle.timeago.specs.Words.{IsWords}
 use Rattle.timeago.specs.Laws.{OneText}
 use Rattle.timeago.specs.Settings.{three_count_settings}
-use Rattle.timeline.specs.declared.fault.ZoneFault.{ZoneFault}
 use Rattle.timeline.specs.Zone.{PlainZone}
 use Rattle.timeline.specs.Laws.{IsLawful}
 use Rattle.timeline.specs.ShownWalls.{seconds_at}
@@ -24,9 +22,8 @@ use Rattle.streams.specs.Report.{OneReply, OneReport}
 use Rattle.tell.specs.Fields.{LineFields, fields_of}
 use Rattle.tell.specs.Moments.{IsBase, Says}
 use Rattle.tell.specs.Voices.{Voices, voice_for, voices_of, IsToldBy}
-use Rattle.tell.specs.Replies.{Reply, BadLine, UnknownZone, Unlawful, Fault, Moment, IsTold, TellsPhrase, IsReplyFrom, IsReplyOf, IsReplyIn, IsReplyTo}
+use Rattle.tell.specs.Replies.{Reply, BadLine, UnknownZone, Fault, Moment, IsTold, TellsPhrase, IsReplyFrom, IsReplyOf, IsReplyIn, IsReplyTo}
 use Rattle.tell.specs.Tales.{Tale, IsTale, lead}
-use Rattle.tell.specs.ReplyTexts.{reply_text}
 use Rattle.tell.specs.Ago.{IsAgoReply, seconds_of}
 use Rattle.tell.specs.Promises.{OneReplyToDates, OneAgoAnswer, EveryMeaningIsTold, EveryPlainFormIsTold, IsReplyAt}
 use Rattle.tell.proofs.SaidMoments.{Meanings, refused_as}
@@ -45,10 +42,7 @@ module _ (M : Meanings) (once : (date : Option DateSpec) (clock : Option TimeSpe
       let same = once parts.date parts.time (Some x) None p (refused_as e parts.date _ q).1 in cc
   answers_once (Ok parts) (Err e) (Ok y) p q =
       let same = once parts.date parts.time (Some y) None q (refused_as e parts.date _ p).1 in cc
-  answers_once (Ok parts) (Err e) (Err e') p q =
-      let first = (refused_as e parts.date _ p).0 in
-      let second = (refused_as e' parts.date _ q).0 in
-      cc
+  answers_once (Ok parts) (Err e) (Err e') p q = cc ((refused_as e parts.date _ p).0, (refused_as e' parts.date _ q).0)
 
 says_once : OneMeaning → (z : PlainZone) (f : LineFields) (a b : Answer)
     → Says z f.dialect f.base f.phrase a → Says z f.dialect f.base f.phrase b → a ≡ b
@@ -103,18 +97,15 @@ module _ (z : PlainZone) (voices : Voices) (f : LineFields) where
       let (answer, says, is) = said_of a p.said in
       by_once text answer a b is (replied_by meaning answer b says q)
 
-  from_once : OneText → OneMeaning → (a b : Reply) → IsReplyFrom z voices f a → IsReplyFrom z voices f b → a ≡ b
-  from_once text meaning a b (inl (none, e)) (inl (none', e')) = e ∙ sym e'
-  from_once text meaning a b (inl (none, e)) (inr (is, q)) = absurd (none is)
-  from_once text meaning a b (inr (is, p)) (inl (none, e)) = absurd (none is)
-  from_once text meaning a b (inr (is, p)) (inr (is', q)) = told_once text meaning a b p q
-
   of_once : OneText → OneMeaning → OneVerdict → (a b : Reply) → IsReplyOf z voices f a → IsReplyOf z voices f b → a ≡ b
   unfolding IsReplyOf
   of_once text meaning verdict a b (inl (x, p, e)) (inl (y, q, g)) = let same = verdict.one_least z x y p q in cc
   of_once text meaning verdict a b (inl (x, p, e)) (inr (lawful, q)) = absurd (verdict.not_both z x lawful p)
   of_once text meaning verdict a b (inr (lawful, p)) (inl (y, q, g)) = absurd (verdict.not_both z y lawful q)
-  of_once text meaning verdict a b (inr (lawful, p)) (inr (lawful', q)) = from_once text meaning a b p q
+  of_once text meaning verdict a b (inr (_, inl (none, e))) (inr (_, inl (none', g))) = e ∙ sym g
+  of_once text meaning verdict a b (inr (_, inl (none, e))) (inr (_, inr (is, q))) = absurd (none is)
+  of_once text meaning verdict a b (inr (_, inr (is, p))) (inr (_, inl (none, g))) = absurd (none is)
+  of_once text meaning verdict a b (inr (_, inr (is, p))) (inr (_, inr (is', q))) = told_once text meaning a b p q
 
   -- nothing is refused from a base in its range, in a lawful zone
   lawful_told : OneVerdict → (reply : Reply) → IsLawful z → IsBase f.base → IsReplyOf z voices f reply → IsTold z voices f reply
