@@ -1,11 +1,11 @@
 -- What stands before the words of a distance: how long its numbers are, and that it is ASCII.
-use Rattle.std.proofs.Common.{◌≡◌, ℕ, ◌<◌, ◌≤◌, ◌^◌, ◌/◌, ℤ, Bool, true, false, [], ◌∷◌, length, FitsSigned, w64, w32, arith, refl, rules, codes}
+use Rattle.std.proofs.Common.{◌≡◌, ℕ, ◌<◌, ◌≤◌, ◌^◌, ◌/◌, ℤ, Bool, true, false, [], length, FitsSigned, w64, w32, arith, refl, rules, codes}
 use Rattle.std.specs.Fmt.{decimal}
 use Rattle.std.specs.Str.{IsAscii}
 use Rattle.std.proofs.lemmas.Int.{ints}
 use Rattle.std.proofs.lemmas.Fmt.{length-decimal-le, IsAscii-decimal}
 use Rattle.std.proofs.lemmas.Str.{IsAscii-append}
-use Rattle.std.proofs.lemmas.Str.Ascii.{IsAscii-nil, IsAscii-push}
+use Rattle.std.proofs.lemmas.Str.Ascii.{IsAscii-nil, IsAscii-cons}
 use Rattle.itoa.proofs.Decimal.{IsAscii-signed_decimal}
 use Rattle.tell.specs.ReplyTexts.{side_text}
 use Rattle.tell.specs.Inside.ReplyParts.{front_text}
@@ -14,18 +14,13 @@ use Rattle.tell.specs.Inside.ReplyParts.{front_text}
 pub few : (n : ℕ) → (decimal n ≡ decimal n) × (n ≤ 9223372036854775808 → length (decimal n) ≤ 19) × (n < 2 ^ 32 → length (decimal n) ≤ 10)
 few n = (refl, λ h. length-decimal-le 19 n (omega arith) (omega (arith, h)) (omega (arith, h)), λ h. length-decimal-le 10 n (omega arith) (omega (arith, h)) (omega (arith, h)))
 
-ascii_byte : (b : ℕ) → b < 128 → IsAscii (b ∷ [])
-ascii_byte b h = IsAscii-push [] b IsAscii-nil h
-
 ascii_side : (ahead : Bool) → IsAscii (side_text ahead)
-ascii_side true = ascii_byte 43 (omega arith)
-ascii_side false = ascii_byte 45 (omega arith)
-
-wide : (z : ℤ) → FitsSigned w32 z → FitsSigned w64 z
-wide z h = omega (arith, ints, h)
+ascii_side true = IsAscii-cons 43 [] (omega arith) IsAscii-nil
+ascii_side false = IsAscii-cons 45 [] (omega arith) IsAscii-nil
 
 pub ascii_front : (second offset : ℤ) (nanos : ℕ) (ahead : Bool) → FitsSigned w64 second → FitsSigned w32 offset → nanos < 2 ^ 32 → IsAscii (front_text second nanos offset ahead)
 ascii_front second offset nanos ahead s o m =
-    let tab : IsAscii (codes "\t") = ascii_byte 9 (omega arith) in
+    let tab : IsAscii (codes "\t") = IsAscii-cons 9 [] (omega arith) IsAscii-nil in
+    let wide : FitsSigned w64 offset = omega (arith, ints, o) in
     let micros : nanos / 1000 < 2 ^ 64 = omega arith in
-    search (rules, IsAscii-append, IsAscii-decimal (nanos / 1000) micros, IsAscii-signed_decimal second s, IsAscii-signed_decimal offset (wide offset o), ascii_side ahead, tab) depth 20
+    search (rules, IsAscii-append, IsAscii-decimal (nanos / 1000) micros, IsAscii-signed_decimal second s, IsAscii-signed_decimal offset wide, ascii_side ahead, tab) depth 20

@@ -79,14 +79,9 @@ zones_named n = rw (up_to-map zone_tree n, up_to-map name_tree n, up_to-map regi
 
 -- ---- the bundle
 
-when_some : {A : Type 0} (some b : Bool) (x y : A) → cond some (when b x) None ≡ Some y → y ≡ x
-when_some true true x y e = cc
-when_some true false x y e = cc
-when_some false b x y e = cc
-
 tree_zones : (n : ℕ) (zones : List NamedZone) → zone_list (load_tree n) ≡ Some zones → zones ≡ load_zones n
 unfolding zone_list checked_zones array_in table_in
-tree_zones n zones e = when_some _ _ _ _ (simp (layers, zones_named n) at e)
+tree_zones n zones e = let checked = simp (layers, zones_named n) at e in grind (arith, nat_tests)
 
 from_words : (over whole : Bool) (words : List ℕ) (zones : List NamedZone) → option_and_then zones_of_words (cond over None (cond whole (Some words) None)) ≡ Some zones
     → zones_of_words words ≡ Some zones
