@@ -1,16 +1,13 @@
 -- The zones that the bundle of a large input has.
-use Rattle.std.proofs.Common.{◌≡◌, ℕ, zero, suc, ◌+◌, ◌%◌, ◌≤◌, Bool, true, false, cond, List, [], ◌∷◌, map, Option, Some, None, refl, sym, ap, ◌∙◌, arith, ℤ, pos, negsuc, ◌+ℤ◌, ◌≤ℤ◌, ◌-◌, ◌==◌, nat_lt, length, rules, w32}
+use Rattle.std.proofs.Common.{◌≡◌, ℕ, zero, suc, ◌+◌, ◌%◌, ◌≤◌, Bool, true, false, cond, List, [], ◌∷◌, map, Option, Some, None, refl, arith, ℤ, pos, negsuc, ◌+ℤ◌, ◌≤ℤ◌, ◌-◌, ◌==◌, nat_lt, length, rules, w32}
 use Rattle.std.proofs.lemmas.Int.{ints}
 use Rattle.std.proofs.lemmas.List.{map-append}
 use Rattle.std.proofs.lemmas.Bool.Decides.{nat_tests}
 use Rattle.std.specs.Prelude.{option_and_then}
 use Rattle.std.specs.Int.{cast_unsigned}
 use Rattle.std.specs.Char.Utf16.{utf16_chars}
-use Rattle.resb_tree.specs.declared.resource.Resource.{Resource, out-Resource, out-roll-Resource}
-use Rattle.resb_tree.specs.declared.resource.Resource.TheOpen.{Resource-F}
+use Rattle.resb_tree.specs.declared.resource.Resource.{out-roll-Resource}
 use Rattle.resb_tree.specs.declared.resource.Resource.TheViews.{rolls-Table, rolls-Array, rolls-Text, rolls-Integers}
-use Rattle.resb_tree.specs.declared.resource.Resource.TheVariants as r
-use Rattle.resb_tree.specs.Bodies.{when}
 use Rattle.resb_tree.specs.Header.{tree_of}
 use Rattle.timeline.specs.Zone.{RawRule, fits_i32}
 use Rattle.zoneinfo64.specs.NamedZone.{NamedZone}

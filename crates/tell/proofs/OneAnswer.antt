@@ -22,7 +22,7 @@ use Rattle.streams.specs.Report.{OneReply, OneReport}
 use Rattle.tell.specs.Fields.{LineFields, fields_of}
 use Rattle.tell.specs.Moments.{IsBase, Says}
 use Rattle.tell.specs.Voices.{Voices, voice_for, voices_of, IsToldBy}
-use Rattle.tell.specs.Replies.{Reply, BadLine, UnknownZone, Fault, Moment, IsTold, TellsPhrase, IsReplyFrom, IsReplyOf, IsReplyIn, IsReplyTo}
+use Rattle.tell.specs.Replies.{Reply, BadLine, UnknownZone, Fault, Moment, IsTold, TellsPhrase, IsReplyOf, IsReplyIn, IsReplyTo}
 use Rattle.tell.specs.Tales.{Tale, IsTale, lead}
 use Rattle.tell.specs.Ago.{IsAgoReply, seconds_of}
 use Rattle.tell.specs.Promises.{OneReplyToDates, OneAgoAnswer, EveryMeaningIsTold, EveryPlainFormIsTold, IsReplyAt}
