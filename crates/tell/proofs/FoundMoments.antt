@@ -19,7 +19,7 @@ use Rattle.tell.specs.Replies.{Reply, Unlawful, Moment as Told, IsReplyFrom, IsR
 use Rattle.tell.specs.ReplyTexts.{reply_text}
 use Rattle.tell.specs.Tells.{Tells}
 use Rattle.tell.specs.Inside.LawsBelow.{LawsBelow}
-use Rattle.tell.specs.Inside.MomentView.{Finds, FindsFrom, ResolvesTo, refusal}
+use Rattle.tell.specs.Inside.MomentView.{Finds, FindsFrom, ResolvesTo}
 use Rattle.tell.specs.Inside.ReplyParts.{IsAnswer, IsMomentText}
 use Rattle.tell.proofs.PlainPhrases.{plain_moment, plain_fault}
 
@@ -69,18 +69,13 @@ module _ (zones : List NamedZone) (f : LineFields) where
   unfolding IsReplyOf
   unlawful_found fault (z, has, broken) = λ voices. rw has (inl (fault, broken, refl))
 
-  refused_in : (z : PlainZone) (refused : Option Reply) → named zones f.zone ≡ Some z → IsLawful z
-      → MatchOption refused ⊥ (λ reply. (voices : Voices) → IsReplyFrom z voices f reply)
-      → MatchOption refused ⊥ (λ reply. (voices : Voices) → IsReplyIn voices zones f reply)
-  unfolding IsReplyOf
-  refused_in z None has lawful found = found
-  refused_in z (Some reply) has lawful found = λ voices. rw has (inr (lawful, found voices))
-
   zone_finds : (z : PlainZone) (r : Result Moment TellError) → named zones f.zone ≡ Some z → IsLawful z → FindsFrom z f r → Finds zones f r
   unfolding IsReplyOf
   zone_finds z (Ok m) has lawful (offset, replied) =
       (z, has, lawful, offset, λ voices t tale. rw has (inr (lawful, replied voices t tale)))
-  zone_finds z (Err e) has lawful found = refused_in z (refusal e) has lawful found
+  zone_finds z (Err error.Memory) has lawful found = absurd found
+  zone_finds z (Err error.Bundle) has lawful found = absurd found
+  zone_finds z (Err e) has lawful found = λ voices. rw has (inr (lawful, found voices))
 
   pub zone_found : (zone : Zone) (r : Result Moment TellError) → IsChecked zones f.zone (Some (Ok zone))
       → IfSome (plain_zone zone) (λ z. IsLawful z → FindsFrom z f r) → Finds zones f r

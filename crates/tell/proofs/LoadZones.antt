@@ -1,5 +1,6 @@
 -- The zones that the bundle of a large input has.
-use Rattle.std.proofs.Common.{◌≡◌, ℕ, zero, suc, ◌+◌, ◌%◌, ◌≤◌, Bool, true, false, cond, List, [], ◌∷◌, map, Option, Some, None, refl, arith, ℤ, pos, negsuc, ◌+ℤ◌, ◌≤ℤ◌, ◌-◌, ◌==◌, nat_lt, length, rules, w32}
+use Rattle.std.proofs.Common.{◌≡◌, ℕ, zero, suc, ◌+◌, ◌%◌, ◌≤◌, Bool, true, false, cond, List, [], ◌∷◌, map, Option, Some, None, refl, arith, ℤ, pos, negsuc, ◌≤ℤ◌, ◌-◌, ◌==◌, nat_lt, length, rules, w32}
+use Rattle.std.proofs.Math.IntN.{+ℤ_idr}
 use Rattle.std.proofs.lemmas.Int.{ints}
 use Rattle.std.proofs.lemmas.List.{map-append}
 use Rattle.std.proofs.lemmas.Bool.Decides.{nat_tests}
@@ -49,12 +50,9 @@ offset_read n = signed_read (load_offset n) (omega (arith, ints)) (omega (arith,
 offset_fits : (n : ℕ) → fits_i32 (load_offset n) ≡ true
 offset_fits n = small_fits (load_offset n) (omega (arith, ints)) (omega (arith, ints))
 
-no_more : (z : ℤ) → z +ℤ pos 0 ≡ z
-no_more z = omega (arith, ints)
-
 zone_read : (n : ℕ) → plain_zone_of no_rule (zone_tree n) ≡ Some (fixed_zone (load_offset n))
 unfolding plain_zone_of type_offsets integers_at bytes_at wide_at zone_rule
-zone_read n = simp (layers, offset_read n, no_more, offset_fits n) refl
+zone_read n = simp (layers, offset_read n, +ℤ_idr, offset_fits n) refl
 
 one_named : (n : ℕ) → named_zone no_rule (zone_tree n) (name_tree n) (region_tree n) ≡ Some (load_zone n)
 unfolding named_zone place_of utf16_chars

@@ -72,30 +72,26 @@ tale_once one z voices base second nanos t u p q =
     }
 
 module _ (z : PlainZone) (voices : Voices) (f : LineFields) where
-  -- what is replied where a phrase says this
-  abbrev IsReplyBy : Answer → Reply → Type 0
-  IsReplyBy (Ok m) reply = IsReplyAt z voices f.base m.0 m.1 reply
-  IsReplyBy (Err e) reply = reply ≡ Fault e
+  -- where a phrase says this moment, it is replied
+  told_as : OneMeaning → (second : ℤ) (nanos : ℕ) (reply : Reply) → Says z f.dialect f.base f.phrase (Ok (second, nanos))
+      → TellsPhrase z voices f reply → IsReplyAt z voices f.base second nanos reply
+  told_as meaning second nanos (Moment t) says (second', nanos', says', tale) =
+      let same = says_once meaning z f (Ok (second', nanos')) (Ok (second, nanos)) says' says in
+      let moment : ◌≡◌ {A = ℤ × ℕ} (second', nanos') (second, nanos) = cc in
+      (t, refl, subst (λ (m : ℤ × ℕ). IsTale z voices f.base m.0 m.1 t) moment tale)
+  told_as meaning second nanos (Fault e) says says' = let same = says_once meaning z f (Ok (second, nanos)) (Err e) says says' in absurd (cc)
+  told_as meaning second nanos other says told = absurd told
 
-  said_of : (reply : Reply) → TellsPhrase z voices f reply → (answer : Answer) × Says z f.dialect f.base f.phrase answer × IsReplyBy answer reply
-  said_of (Moment t) (second, nanos, says, tale) = (Ok (second, nanos), says, (t, refl, tale))
-  said_of (Fault e) says = (Err e, says, refl)
-  said_of other told = absurd told
-
-  -- where a phrase says this, it is replied
-  replied_by : OneMeaning → (answer : Answer) (reply : Reply) → Says z f.dialect f.base f.phrase answer → IsTold z voices f reply → IsReplyBy answer reply
-  replied_by meaning answer reply says told =
-      let (other, said, is) = said_of reply told.said in
-      subst (λ (r : Answer). IsReplyBy r reply) (says_once meaning z f other answer said says) is
-
-  by_once : OneText → (answer : Answer) (a b : Reply) → IsReplyBy answer a → IsReplyBy answer b → a ≡ b
-  by_once one (Ok m) a b (t, e, p) (u, g, q) = e ∙ ap (λ (x : Tale). Moment x) (tale_once one z voices f.base m.0 m.1 t u p q) ∙ sym g
-  by_once one (Err e) a b p q = p ∙ sym q
-
-  told_once : OneText → OneMeaning → (a b : Reply) → IsTold z voices f a → IsTold z voices f b → a ≡ b
-  told_once text meaning a b p q =
-      let (answer, says, is) = said_of a p.said in
-      by_once text answer a b is (replied_by meaning answer b says q)
+  told_once : OneText → OneMeaning → (a b : Reply) → TellsPhrase z voices f a → TellsPhrase z voices f b → a ≡ b
+  told_once text meaning (Moment t) b (second, nanos, says, tale) q =
+      let (u, e, other) = told_as meaning second nanos b says q in
+      ap (λ (x : Tale). Moment x) (tale_once text z voices f.base second nanos t u tale other) ∙ sym e
+  told_once text meaning (Fault e) (Fault e') p q = let same = says_once meaning z f (Err e) (Err e') p q in cc
+  told_once text meaning a (Moment u) p (second, nanos, says, tale) =
+      let (t, e, other) = told_as meaning second nanos a says p in
+      e ∙ ap (λ (x : Tale). Moment x) (tale_once text z voices f.base second nanos t u other tale)
+  told_once text meaning (Fault e) other p q = absurd q
+  told_once text meaning other b p q = absurd p
 
   of_once : OneText → OneMeaning → OneVerdict → (a b : Reply) → IsReplyOf z voices f a → IsReplyOf z voices f b → a ≡ b
   unfolding IsReplyOf
@@ -105,7 +101,7 @@ module _ (z : PlainZone) (voices : Voices) (f : LineFields) where
   of_once text meaning verdict a b (inr (_, inl (none, e))) (inr (_, inl (none', g))) = e ∙ sym g
   of_once text meaning verdict a b (inr (_, inl (none, e))) (inr (_, inr (is, q))) = absurd (none is)
   of_once text meaning verdict a b (inr (_, inr (is, p))) (inr (_, inl (none, g))) = absurd (none is)
-  of_once text meaning verdict a b (inr (_, inr (is, p))) (inr (_, inr (is', q))) = told_once text meaning a b p q
+  of_once text meaning verdict a b (inr (_, inr (is, p))) (inr (_, inr (is', q))) = told_once text meaning a b p.said q.said
 
   -- nothing is refused from a base in its range, in a lawful zone
   lawful_told : OneVerdict → (reply : Reply) → IsLawful z → IsBase f.base → IsReplyOf z voices f reply → IsTold z voices f reply
@@ -136,7 +132,7 @@ plain_told verdict voices zones f z w reply has lawful base form is =
 
 pub meaning_told : OneMeaning → OneVerdict → EveryMeaningIsTold
 meaning_told meaning verdict voices zones f z second nanos reply has lawful base says is =
-    replied_by z voices f meaning (Ok (second, nanos)) reply says (lawful_told z voices f verdict reply lawful base (rw has at is))
+    told_as z voices f meaning second nanos reply says (lawful_told z voices f verdict reply lawful base (rw has at is)).said
 
 -- ---- lines of seconds
 
