@@ -15,7 +15,7 @@ use Rattle.tell.specs.declared.told.TellError.{TellError}
 use Rattle.tell.specs.Fields.{LineFields, fields_of}
 use Rattle.tell.specs.Moments.{IsBase}
 use Rattle.tell.specs.Voices.{Voices}
-use Rattle.tell.specs.Replies.{Reply, Unlawful, Moment as Told, IsReplyFrom, IsReplyOf, IsReplyIn}
+use Rattle.tell.specs.Replies.{Reply, Unlawful, Moment as Told, IsReplyOf, IsReplyIn}
 use Rattle.tell.specs.ReplyTexts.{reply_text}
 use Rattle.tell.specs.Tells.{Tells}
 use Rattle.tell.specs.Inside.LawsBelow.{LawsBelow}

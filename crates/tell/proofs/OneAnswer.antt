@@ -87,9 +87,7 @@ module _ (z : PlainZone) (voices : Voices) (f : LineFields) where
       let (u, e, other) = told_as meaning second nanos b says q in
       ap (λ (x : Tale). Moment x) (tale_once text z voices f.base second nanos t u tale other) ∙ sym e
   told_once text meaning (Fault e) (Fault e') p q = let same = says_once meaning z f (Err e) (Err e') p q in cc
-  told_once text meaning a (Moment u) p (second, nanos, says, tale) =
-      let (t, e, other) = told_as meaning second nanos a says p in
-      e ∙ ap (λ (x : Tale). Moment x) (tale_once text z voices f.base second nanos t u other tale)
+  told_once text meaning (Fault e) (Moment u) p (second, nanos, says, tale) = let same = says_once meaning z f (Err e) (Ok (second, nanos)) p says in absurd (cc)
   told_once text meaning (Fault e) other p q = absurd q
   told_once text meaning other b p q = absurd p
 
