@@ -1,5 +1,5 @@
 -- How the fields of a line are cut off one by one.
-use Rattle.std.proofs.Common.{◌≡◌, ◌≢◌, ℕ, suc, ◌+◌, ◌-◌, ◌*◌, ◌<◌, ◌≤◌, ◌^◌, ◌==◌, ℤ, pos, neg_ℤ, Bool, true, false, not, List, [], ◌∷◌, length, take, drop, get_or, Option, Some, None, refl, sym, if◌then◌else◌, arith}
+use Rattle.std.proofs.Common.{◌≡◌, ◌≢◌, ℕ, suc, ◌+◌, ◌-◌, ◌<◌, ◌≤◌, ◌^◌, ◌==◌, ℤ, pos, neg_ℤ, Bool, false, not, List, [], ◌∷◌, length, take, drop, get_or, Option, Some, None, refl, sym, if◌then◌else◌, arith}
 use Rattle.std.specs.Option.{option_map}
 use Rattle.std.specs.List.{prefix_len}
 use Rattle.std.specs.Prelude.{option_and_then, position}

@@ -1,6 +1,6 @@
 -- Wall seconds of the calendar, and those outside.
-use Rattle.std.proofs.Common.{◌≡◌, inl, inr, true, false, ℤ, pos, int_le, refl, arith}
-use Rattle.std.proofs.lemmas.Bool.{and_parts, cases_Bool}
+use Rattle.std.proofs.Common.{◌≡◌, inl, inr, true, false, ℤ, pos, refl, arith}
+use Rattle.std.proofs.lemmas.Bool.{cases_Bool}
 use Rattle.civil.specs.Clock.{IsWallSecond, wall_day}
 use Rattle.jiff_core.proofs.SignedLemmas.{signed_arith}
 use Rattle.interim.specs.Refusal.{is_within, civil_days, civil_seconds}
@@ -9,9 +9,7 @@ pub second_inside : (s : ℤ) → IsWallSecond s → is_within civil_seconds s �
 second_inside s is = grind (arith, signed_arith, is.first, is.last)
 
 second_within : (s : ℤ) → is_within civil_seconds s ≡ true → IsWallSecond s
-second_within s holds =
-    let parts = and_parts (int_le civil_seconds.first s) (int_le s civil_seconds.last) holds in
-    record { first = omega (arith, signed_arith, parts.0); last = omega (arith, signed_arith, parts.1) }
+second_within s holds = record { first = grind (arith, signed_arith, holds); last = grind (arith, signed_arith, holds) }
 
 pub second_outside : (s : ℤ) → (IsWallSecond s → ⊥) → is_within civil_seconds s ≡ false
 second_outside s never = elim (cases_Bool (is_within civil_seconds s)) [
@@ -31,13 +29,6 @@ near_wall s = elim (cases_Bool (is_within civil_seconds s)) [
 ]
 
 -- their days are those of the calendar
-pub day_inside : (w : ℤ) → IsWallSecond w → is_within civil_days (wall_day w) ≡ true
+pub day_within : (w : ℤ) → is_within civil_days (wall_day w) ≡ is_within civil_seconds w
 unfolding wall_day
-day_inside w is = grind (arith, signed_arith, is.first, is.last)
-
-pub no_wall_day : (w : ℤ) → (IsWallSecond w → ⊥) → is_within civil_days (wall_day w) ≡ false
-unfolding wall_day
-no_wall_day w never = elim (cases_Bool (is_within civil_days (wall_day w))) [
-  | inl holds ↦ (let parts = and_parts (int_le civil_days.first (wall_day w)) (int_le (wall_day w) civil_days.last) holds in absurd (never (record { first = omega (arith, signed_arith, parts.0); last = omega (arith, signed_arith, parts.1) })))
-  | inr fails ↦ fails
-]
+day_within w = grind (arith, signed_arith)

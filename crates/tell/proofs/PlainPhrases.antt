@@ -1,5 +1,5 @@
 -- In a lawful zone a phrase of the plain form says the moment at which its wall second is placed.
-use Rattle.std.proofs.Common.{◌≡◌, inl, inr, ℕ, ◌/◌, Bool, true, false, Option, Some, None, Ok, Err, ℤ, pos, ◌+ℤ◌, ◌-ℤ◌, refl, arith, rules, if◌then◌else◌}
+use Rattle.std.proofs.Common.{◌≡◌, inl, inr, ℕ, ◌/◌, Bool, true, false, Option, Some, None, Ok, Err, ℤ, pos, ◌+ℤ◌, ◌-ℤ◌, refl, arith, if◌then◌else◌}
 use Rattle.std.proofs.lemmas.Int.{ints}
 use Rattle.std.proofs.lemmas.Option.{some_pair_parts}
 use Rattle.civil.specs.Clock.{IsWallSecond}
@@ -10,28 +10,19 @@ use Rattle.timeline.specs.Placement.{IsPlaced}
 use Rattle.timeline.specs.ShownWalls.{seconds_at}
 use Rattle.interim.specs.declared.errors.DateError.{DateError}
 use Rattle.interim.specs.declared.types.DateSpec.TheVariants.{Absolute}
-use Rattle.interim.specs.Meaning.{MeansIn}
+use Rattle.interim.specs.Meaning.{MeansIn, moment_at}
 use Rattle.interim.specs.PlainForm.{IsPlainForm}
 use Rattle.interim.specs.Refusal.{civil_days, civil_seconds, is_within}
 use Rattle.tell.specs.Fields.{LineFields}
 use Rattle.tell.specs.Moments.{IsBase, Says}
 use Rattle.tell.specs.Inside.LawsBelow.{LawsBelow}
+use Rattle.tell.proofs.NearWalls.{second_inside}
 use Rattle.tell.proofs.SaidMoments.{refused_as}
 
 -- the moment that is reached is the place, without a fraction
-abbrev place_if : Bool → ℤ → Option (ℤ × ℕ)
-place_if v s = if v then Some (s, 0) else None
-
-at_place : (v : Bool) (s s' : ℤ) (f : ℕ) → ◌≡◌ {A = Option (ℤ × ℕ)} (Some (s, f)) (place_if v s') → (s ≡ s') × (f ≡ 0)
+at_place : (v : Bool) (s s' : ℤ) (f : ℕ) → ◌≡◌ {A = Option (ℤ × ℕ)} (Some (s, f)) (if v then Some (s', 0) else None) → (s ≡ s') × (f ≡ 0)
 at_place true s s' f e = some_pair_parts s s' f 0 e
 at_place false s s' f e = absurd (cc)
-
-no_place : (v : Bool) (s : ℤ) → v ≡ true → ◌≡◌ {A = Option (ℤ × ℕ)} None (place_if v s) → ⊥
-no_place true s is e = cc
-no_place false s is e = cc
-
-within : (s : ℤ) → IsWallSecond s → is_within civil_seconds s ≡ true
-within s is = search (rules, is.first, is.last)
 
 module _ (laws : LawsBelow) (z : PlainZone) (lawful : IsLawful z) where
   -- a place is less than a day from its wall second
@@ -49,7 +40,7 @@ module _ (laws : LawsBelow) (z : PlainZone) (lawful : IsLawful z) where
     -- what the phrase means is the place, where that is a moment of the calendar
     placed : (moment : Option (ℤ × ℕ))
         → MeansIn (seconds_at z) civil_days civil_seconds (f.base, 0) f.dialect (Some (Absolute form.0)) (Some form.1) moment
-        → (s : ℤ) × seconds.IsPlaced (seconds_at z) w s × (moment ≡ place_if (is_within civil_seconds s) s)
+        → (s : ℤ) × seconds.IsPlaced (seconds_at z) w s × (moment ≡ moment_at civil_seconds s 0)
     placed moment means =
         let read = laws.read f.dialect f.phrase form.0 form.1 form.2 in
         let small = laws.small z f.base lawful in
@@ -74,4 +65,5 @@ module _ (laws : LawsBelow) (z : PlainZone) (lawful : IsLawful z) where
         let (_, means) = refused_as e (Some (Absolute form.0)) _ (rw read.parts at says) in
         let (place, is, reached) = placed None means in
         let inside = laws.inside f.dialect f.phrase w form in
-        no_place (is_within civil_seconds place) place (within place (near w place is inside.0 inside.1)) reached
+        let never = rw (second_inside place (near w place is inside.0 inside.1)) at reached in
+        cc

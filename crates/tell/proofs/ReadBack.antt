@@ -1,6 +1,5 @@
 -- What is told of a distance can be read back.
 use Rattle.std.proofs.Common.{◌≡◌, ℕ, suc, ◌-◌, ◌<◌, ◌≤◌, ◌==◌, pos, neg_ℤ, List, [], ◌∷◌, ◌++◌, length, Some, None, Ok, refl, ap, ◌∙◌, Bool, true, false, if◌then◌else◌, arith, codes, decimal, append_assoc, length-append}
-use Rattle.tongues.specs.Text.{text}
 use Rattle.tongues.specs.Units.{unit_size}
 use Rattle.tongues.specs.GermanicLanguages.{english}
 use Rattle.tongues.specs.declared.unit.TimeUnit.{TimeUnit}
@@ -10,7 +9,6 @@ use Rattle.interim.specs.declared.errors.Span.{Span}
 use Rattle.interim.specs.declared.types.Dialect.{Dialect}
 use Rattle.interim.specs.declared.types.Dialect.TheVariants.{Uk}
 use Rattle.interim.specs.declared.types.Interval.{Interval}
-use Rattle.interim.specs.declared.types.Interval.TheVariants.{Seconds, Days, Months}
 use Rattle.interim.specs.declared.types.DateSpec.TheVariants.{Relative}
 use Rattle.interim.specs.Intervals.{scaled}
 use Rattle.interim.specs.DatePart.{date_part, first, head}
@@ -26,7 +24,7 @@ use Rattle.tell.specs.ReadBack.{ToldWordsAreReadBack, SaysBack, interval_of_unit
 use Rattle.tell.proofs.ReadBackTokens.{at, number_tokens}
 
 -- a word that is told of a unit behind a count: one token before `ago`, no month, and the unit's interval
-record IsToldWord (unit : TimeUnit) (word : List ℕ) : Type 0 where
+pub record IsToldWord (unit : TimeUnit) (word : List ℕ) : Type 0 where
   interval : Interval
   of_unit : interval_of_unit unit ≡ Some interval
   alone : (steps total : ℕ) → (s : Span) × (r : Span)
@@ -35,7 +33,7 @@ record IsToldWord (unit : TimeUnit) (word : List ℕ) : Type 0 where
   same_unit : unit_of word ≡ Some interval
 
 -- the words of seconds to years, for one and for more
-told_word : (unit : TimeUnit) (one : Bool) → unit_size u.Seconds ≤ unit_size unit
+pub told_word : (unit : TimeUnit) (one : Bool) → unit_size u.Seconds ≤ unit_size unit
     → IsToldWord unit (if one then english.word unit 1 else english.word unit 2)
 unfolding tokens split_at more kind_of month_of unit_of
 told_word u.Nanoseconds one h = absurd (omega arith)
@@ -46,21 +44,16 @@ told_word unit false h = record { interval = _; of_unit = refl; alone = λ steps
 
 -- ---- the tokens of a told count
 
-enough : (m total : ℕ) (bs : List ℕ) → 4 ≤ m → tokens m total bs ≡ tokens (suc (suc (suc (suc (m - 4))))) total bs
-enough m total bs h =
-    let same : m ≡ suc (suc (suc (suc (m - 4)))) = omega arith in
-    ap (λ (k : ℕ). tokens k total bs) same
-
 told_tokens : (n : ℕ) (unit : TimeUnit) (word : List ℕ) → n < 10000 → IsToldWord unit word
     → (s : Span) × (r : Span) × (q : Span)
     × (phrase_tokens (decimal n ++ 32 ∷ (word ++ codes " ago")) ≡ at (Number n) s ∷ at (Word word) r ∷ at (Word (codes "ago")) q ∷ [])
 unfolding tokens_of
 told_tokens n unit word small is =
     let phrase : List ℕ = decimal n ++ 32 ∷ (word ++ codes " ago") in
-    let long : 4 ≤ length phrase = omega (arith, length-append (decimal n) (32 ∷ (word ++ codes " ago")), length-append word (codes " ago")) in
+    let steps : length phrase ≡ suc (suc (suc (suc (length phrase - 4)))) = omega (arith, length-append (decimal n) (32 ∷ (word ++ codes " ago")), length-append word (codes " ago")) in
     let front = number_tokens (suc (suc (suc (length phrase - 4)))) n (length phrase) (word ++ codes " ago") small in
     let back = is.alone (length phrase - 4) (length phrase) in
-    (front.0, back.0, back.1, enough (length phrase) (length phrase) phrase long ∙ front.1 ∙ ap (λ (ts : List Token). at (Number n) front.0 ∷ ts) back.2)
+    (front.0, back.0, back.1, ap (λ (k : ℕ). tokens k (length phrase) phrase) steps ∙ front.1 ∙ ap (λ (ts : List Token). at (Number n) front.0 ∷ ts) back.2)
 
 -- ---- their parts
 
@@ -72,7 +65,7 @@ parts_back dialect n unit word small is =
     let ts = told_tokens n unit word small is in
     ap (parts_of dialect) ts.3 ∙ rw (is.no_month, is.same_unit) refl
 
-says_back : (phrase : List ℕ) (n : ℕ) (unit : TimeUnit) (word : List ℕ) → phrase ≡ decimal n ++ codes " " ++ word ++ codes " ago"
+pub says_back : (phrase : List ℕ) (n : ℕ) (unit : TimeUnit) (word : List ℕ) → phrase ≡ decimal n ++ codes " " ++ word ++ codes " ago"
     → n < 10000 → IsToldWord unit word → SaysBack phrase unit n
 unfolding duration_of
 says_back phrase n unit word same small is = rw same (simp append_assoc (record {

@@ -1,5 +1,5 @@
 -- What a phrase is answered over moments of any kind, as it is said of seconds with their nanoseconds.
-use Rattle.std.proofs.Common.{◌≡◌, ℕ, false, true, List, Option, Some, None, IfSome, IfOk, Result, Ok, Err, ℤ, refl, sym, ap, subst}
+use Rattle.std.proofs.Common.{◌≡◌, ℕ, false, true, List, Option, Some, None, IfSome, IfOk, Result, Ok, Err, ℤ, refl, ap}
 use Rattle.interim.specs.declared.errors.DateError.{DateError}
 use Rattle.interim.specs.declared.errors.DateError.TheVariants as errors
 use Rattle.interim.specs.declared.types.DateSpec.{DateSpec}
@@ -10,7 +10,8 @@ use Rattle.timeline.specs.Zone.{PlainZone}
 use Rattle.timeline.specs.Laws.{IsLawful}
 use Rattle.zoneinfo64.specs.ZoneOffsets.{off_in}
 use Rattle.interim.specs.Grammar.{parts_of}
-use Rattle.interim.specs.Meaning.{MeansIn}
+use Rattle.interim.specs.Meaning.{Means, MeansIn, ShowsIf, PlacesIf}
+use Rattle.interim.specs.MeaningLaws.{SoundMeaning}
 use Rattle.interim.specs.Refusal.{AnswersPhrase, IsRefusedAs, civil_days, civil_seconds}
 use Rattle.interim.specs.Tokens.{phrase_tokens}
 use Rattle.tell.specs.Moments.{Says}
@@ -29,15 +30,11 @@ refused_as errors.MissingTime None P h = (refl, h)
 refused_as errors.Memory date P h = let never : false ≡ true = h in cc
 refused_as e date P h = absurd h
 
-refused_for : (date : Option DateSpec) (P : Type 0) → P → IsRefusedAs false (missing date) date P
-refused_for (Some date) P h = h
-refused_for None P h = h
-
 -- a refusal stays where what it rests on is another way to say the same
 refused_on : (e : DateError) (date : Option DateSpec) (P Q : Type 0) → (P → Q) → IsRefusedAs false e date P → IsRefusedAs false e date Q
-refused_on e date P Q f h =
-    let (same, p) = refused_as e date P h in
-    rw same (refused_for date Q (f p))
+refused_on errors.MissingDate (Some date) P Q f h = f h
+refused_on errors.MissingTime None P Q f h = f h
+refused_on e date P Q f h = h
 
 abbrev pub Meanings : Type 1
 Meanings = Option DateSpec → Option TimeSpec → Option (ℤ × ℕ) → Type 0
@@ -50,23 +47,18 @@ said_err view view' (Ok parts) M N e f h = refused_on e parts.date (M parts.date
 
 pub said_ok : {T U : Type 0} (view : T → ℤ × ℕ) (view' : U → ℤ × ℕ) (parts : Result DateTimeSpec DateError) (M N : Meanings) (m : T) (m' : U)
     → ((date : Option DateSpec) (clock : Option TimeSpec) (r : Option (ℤ × ℕ)) → M date clock r → N date clock r)
-    → (view' m').0 ≡ (view m).0 → (view' m').1 ≡ (view m).1
-    → AnswersPhrase false view parts M (Ok m) → AnswersPhrase false view' parts N (Ok m')
-said_ok {T} {U} view view' (Err fault) M N m m' f e g h = let never : ◌≡◌ {A = Result T DateError} (Ok m) (Err fault) = h in cc
-said_ok view view' (Ok parts) M N m m' f e g h =
-    let P : ℤ → Type 0 = λ x. N parts.date parts.time (Some (x, (view' m').1)) in
-    let Q : ℕ → Type 0 = λ x. N parts.date parts.time (Some ((view m).0, x)) in
-    subst P (sym e) (subst Q (sym g) (f parts.date parts.time (Some (view m)) h))
+    → view' m' ≡ view m → AnswersPhrase false view parts M (Ok m) → AnswersPhrase false view' parts N (Ok m')
+said_ok {T} {U} view view' (Err fault) M N m m' f e h = let never : ◌≡◌ {A = Result T DateError} (Ok m) (Err fault) = h in cc
+said_ok view view' (Ok parts) M N m m' f e h = rw e (f parts.date parts.time (Some (view m)) h)
 
--- the same meaning, in the zone and from the base by other names
-pub means_from : {Z : Type 0} (off : Z → ℤ → ℤ) (z z' : Z) (base base' : ℤ) (nanos : ℕ) (dialect : Dialect) (date : Option DateSpec) (clock : Option TimeSpec) (r : Option (ℤ × ℕ))
-    → z' ≡ z → base' ≡ base → nanos ≡ 0 → MeansIn (off z') civil_days civil_seconds (base', nanos) dialect date clock r
+-- the same meaning, in the sound zone and from the base by other names
+pub means_from : {Z : Type 0} (sound : Z → Type 0) (off : Z → ℤ → ℤ) → ((zone : Z) → SoundMeaning (sound zone) (off zone))
+    → (z z' : Z) (base base' : ℤ) (nanos : ℕ) (dialect : Dialect) → z' ≡ z → base' ≡ base → nanos ≡ 0 → sound z
+    → (date : Option DateSpec) (clock : Option TimeSpec) (r : Option (ℤ × ℕ))
+    → Means (ShowsIf (sound z') (off z')) (PlacesIf (sound z') (off z')) civil_days civil_seconds (base', nanos) dialect date clock r
     → MeansIn (off z) civil_days civil_seconds (base, 0) dialect date clock r
-means_from {Z} off z z' base base' nanos dialect date clock r same moved none means =
-    let A : Z → Type 0 = λ x. MeansIn (off x) civil_days civil_seconds (base', nanos) dialect date clock r in
-    let B : ℤ → Type 0 = λ x. MeansIn (off z) civil_days civil_seconds (x, nanos) dialect date clock r in
-    let C : ℕ → Type 0 = λ x. MeansIn (off z) civil_days civil_seconds (base, x) dialect date clock r in
-    subst C none (subst B moved (subst A same means))
+means_from sound off law z z' base base' nanos dialect same moved none is date clock r means =
+    law z civil_days civil_seconds (base, 0) dialect date clock r is (rw (same, moved, none) at means)
 
 -- ---- in a zone of a bundle
 
@@ -78,13 +70,8 @@ pub zone_said : (zone : Option PlainZone) (dialect : Dialect) (base base' : ℤ)
 unfolding Says
 zone_said None dialect base base' phrase said same h f = tt
 zone_said (Some z) dialect base base' phrase (Err e) same h f = λ lawful.
-    let P : ℤ → Type 0 = λ b. Says z dialect b phrase (Err e) in
-    let M : ℤ → Meanings = λ b. MeansIn (off_in (Some z)) civil_days civil_seconds (b, 0) dialect in
-    subst P same (said_err moment_view (λ (m : ℤ × ℕ). m) (parts_of dialect (phrase_tokens phrase)) (M base') (M base') e (λ date clock r means. means) (h lawful))
-zone_said (Some z) dialect base base' phrase (Ok m) same h f = λ lawful.
-    let P : ℤ → Type 0 = λ b. Says z dialect b phrase (Ok (m.second, m.nanos)) in
-    let M : ℤ → Meanings = λ b. MeansIn (off_in (Some z)) civil_days civil_seconds (b, 0) dialect in
-    record {
-      said = subst P same (said_ok moment_view (λ (m : ℤ × ℕ). m) (parts_of dialect (phrase_tokens phrase)) (M base') (M base') m (m.second, m.nanos) (λ date clock r means. means) refl refl (h lawful));
-      offset = f lawful;
-    }
+    rw (← same) (said_err moment_view (λ (m : ℤ × ℕ). m) (parts_of dialect (phrase_tokens phrase)) _ _ e (λ date clock r means. means) (h lawful))
+zone_said (Some z) dialect base base' phrase (Ok m) same h f = λ lawful. record {
+  said = rw (← same) (said_ok moment_view (λ (m : ℤ × ℕ). m) (parts_of dialect (phrase_tokens phrase)) _ _ m (m.second, m.nanos) (λ date clock r means. means) refl (h lawful));
+  offset = f lawful;
+}

@@ -1,9 +1,9 @@
-use Rattle.std.proofs.Common.{◌+ℤ◌, refl, arith}
+use Rattle.std.proofs.Common.{◌+ℤ◌, refl, ◌∙◌, arith}
 use Rattle.civil.specs.Clock.{wall_day, wall_clock}
 use Rattle.jiff_core.proofs.SignedLemmas.{signed_arith, int_rem_euclid-parts}
 use Rattle.interim.specs.Walls.{Wall}
 use Rattle.tell.specs.Inside.LocatedView.{second_in, nanos_in, zone_in}
-use Rattle.tell.proofs.NearWalls.{near_wall, day_inside}
+use Rattle.tell.proofs.NearWalls.{near_wall, day_within, second_inside}
 use Rattle.tell.proofs.located.LocatedDateTime.zone_if_inside.Goals as goal
 
 pub returns-then-self-clause-some : goal.returns-then-self-clause-some
@@ -18,5 +18,5 @@ returns-then-self-clause-some g c = λ _.
         in_day = omega (arith, signed_arith, int_rem_euclid-parts);
         nanos_kept = refl;
       },
-      day_inside near.0 near.1,
+      day_within near.0 ∙ second_inside near.0 near.1,
     )
