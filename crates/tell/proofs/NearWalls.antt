@@ -1,6 +1,6 @@
 -- Wall seconds of the calendar, and those outside.
 use Rattle.std.proofs.Common.{◌≡◌, inl, inr, true, false, ℤ, pos, refl, arith}
-use Rattle.std.proofs.lemmas.Bool.{cases_Bool}
+use Rattle.std.proofs.lemmas.Bool.{cases_Bool, false_from_ne_true}
 use Rattle.civil.specs.Clock.{IsWallSecond, wall_day}
 use Rattle.jiff_core.proofs.SignedLemmas.{signed_arith}
 use Rattle.interim.specs.Refusal.{is_within, civil_days, civil_seconds}
@@ -12,10 +12,7 @@ second_within : (s : ℤ) → is_within civil_seconds s ≡ true → IsWallSecon
 second_within s holds = record { first = grind (arith, signed_arith, holds); last = grind (arith, signed_arith, holds) }
 
 pub second_outside : (s : ℤ) → (IsWallSecond s → ⊥) → is_within civil_seconds s ≡ false
-second_outside s never = elim (cases_Bool (is_within civil_seconds s)) [
-  | inl holds ↦ absurd (never (second_within s holds))
-  | inr fails ↦ fails
-]
+second_outside s never = false_from_ne_true _ (λ holds. never (second_within s holds))
 
 -- the wall second that is sought, where it is one of the calendar, and else another
 pub near_wall : (s : ℤ) → (w : ℤ) × IsWallSecond w × (IsWallSecond s → s ≡ w)
