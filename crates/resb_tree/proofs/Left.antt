@@ -83,18 +83,6 @@ values_left make same at from false None limit = refl
 values_left make same at from false (Some n) limit =
     let e : weight (make (run at from n)) ≡ n + 1 = same (run at from n) ∙ omega (arith, length_run at from n) in rw e refl
 
-text_left : (b : Body) (v limit : ℕ) → counted_left b v 2 limit ≡ left_of weight limit (text_at b v)
-unfolding counted_left text_at
-text_left b v limit = values_left (λ xs. r.Text xs) weight-Text (unit_in b.words) (2 * (v + 1)) (eqb v 0) (counted b v 2) limit
-
-bytes_left : (b : Body) (v limit : ℕ) → counted_left b v 4 limit ≡ left_of weight limit (bytes_at b v)
-unfolding counted_left bytes_at
-bytes_left b v limit = values_left (λ xs. r.Bytes xs) weight-Bytes (byte_in b.words) (4 * (v + 1)) (eqb v 0) (counted b v 4) limit
-
-integers_left : (b : Body) (v limit : ℕ) → counted_left b v 1 limit ≡ left_of weight limit (integers_at b v)
-unfolding counted_left integers_at
-integers_left b v limit = values_left (λ xs. r.Integers xs) weight-Integers (slice_index b.words) (v + 1) (eqb v 0) (counted b v 1) limit
-
 short_left : (b : Body) (v limit : ℕ) → short_text_left b v limit ≡ left_of weight limit (short_text_at b v)
 unfolding short_text_left
 short_left b v limit = rw (short_text_span b v) (by (short_span b v))
@@ -134,14 +122,6 @@ unfolding array_left
 array_is form one tree h b v limit =
     parts_left weights (λ xs. r.Array xs) weight-Array [] refl (no_items form v) (array_count form b v) (λ n. items_left one (run (item_in form b) (v + 1) n)) (λ n. all_of tree (run (item_in form b) (v + 1) n))
     (λ n. items_are one tree h (run (item_in form b) (v + 1) n)) limit
-
-pub long_array : (one : ℕ → Option Resource) (b : Body) (v : ℕ) → array_by array.Long one b v ≡ array_at one b v
-unfolding array_at
-long_array one b v = refl
-
-pub short_array : (one : ℕ → Option Resource) (b : Body) (v : ℕ) → array_by array.Short one b v ≡ short_array_at one b v
-unfolding short_array_at
-short_array one b v = refl
 
 -- ---- tables
 
@@ -229,10 +209,6 @@ pub wide_table : (one : ℕ → Option Resource) (b : Body) (v : ℕ) → table_
 unfolding table32_at
 wide_table one b v = ap (λ t. cond (eqb v 0) (Some (r.Table [])) t) (tested _ (slice_index b.words v) (λ n. table_of one b (run (entry_in table.Wide b v n) 0 n)))
 
-pub brief_table : (one : ℕ → Option Resource) (b : Body) (v : ℕ) → table_by table.Brief one b v ≡ short_table_at one b v
-unfolding short_table_at
-brief_table one b v = refl
-
 -- ---- items
 
 -- choices by number, with tables and arrays last
@@ -247,7 +223,7 @@ choice false limit x y x' y' p q = q
 
 -- what is left behind an item
 pub left_is : (b : Body) (levels item limit : ℕ) → left_behind b levels item limit ≡ left_of weight limit (tree_at b levels item)
-unfolding left_behind tree_at typed_left nested_left by_type
+unfolding left_behind tree_at typed_left nested_left by_type counted_left text_at bytes_at integers_at array_at short_array_at short_table_at
 left_is b zero item limit = refl
 left_is b (suc levels) item limit =
     let v = item % 268435456 in
@@ -256,16 +232,16 @@ left_is b (suc levels) item limit =
     let tree = tree_at b levels in
     let h = left_is b levels in
     reordered t _ _ _ _ _ _ _ _ _ _ _ ∙
-    choice (eqb t 0) limit _ _ _ _ (text_left b v limit) (
-    choice (eqb t 1) limit _ _ _ _ (bytes_left b v limit) (
+    choice (eqb t 0) limit _ _ _ _ (values_left (λ xs. r.Text xs) weight-Text (unit_in b.words) (2 * (v + 1)) (eqb v 0) (counted b v 2) limit) (
+    choice (eqb t 1) limit _ _ _ _ (values_left (λ xs. r.Bytes xs) weight-Bytes (byte_in b.words) (4 * (v + 1)) (eqb v 0) (counted b v 4) limit) (
     choice (eqb t 2) limit _ _ _ _ (table_is table.Narrow one tree h b v limit ∙ ap (left_of weight limit) (narrow_table tree b v)) (
     choice (eqb t 4) limit _ _ _ _ (table_is table.Wide one tree h b v limit ∙ ap (left_of weight limit) (wide_table tree b v)) (
-    choice (eqb t 5) limit _ _ _ _ (table_is table.Brief one tree h b v limit ∙ ap (left_of weight limit) (brief_table tree b v)) (
+    choice (eqb t 5) limit _ _ _ _ (table_is table.Brief one tree h b v limit) (
     choice (eqb t 6) limit _ _ _ _ (short_left b v limit) (
     choice (eqb t 7) limit _ _ _ _ (rw weight-Integer refl) (
-    choice (eqb t 8) limit _ _ _ _ (array_is array.Long one tree h b v limit ∙ ap (left_of weight limit) (long_array tree b v)) (
-    choice (eqb t 9) limit _ _ _ _ (array_is array.Short one tree h b v limit ∙ ap (left_of weight limit) (short_array tree b v)) (
-    choice (eqb t 14) limit _ _ _ _ (integers_left b v limit) refl)))))))))
+    choice (eqb t 8) limit _ _ _ _ (array_is array.Long one tree h b v limit) (
+    choice (eqb t 9) limit _ _ _ _ (array_is array.Short one tree h b v limit) (
+    choice (eqb t 14) limit _ _ _ _ (values_left (λ xs. r.Integers xs) weight-Integers (slice_index b.words) (v + 1) (eqb v 0) (counted b v 1) limit) refl)))))))))
 
 -- ---- the root
 
