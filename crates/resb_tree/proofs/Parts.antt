@@ -1,7 +1,7 @@
 -- Items and entries by where they stand.
-use Rattle.std.proofs.Common.{◌≡◌, ℕ, zero, suc, ◌+◌, ◌-◌, ◌*◌, ◌/◌, ◌%◌, ◌<◌, ◌≤◌, Bool, true, false, cond, leb, ltb, List, [], ◌∷◌, Option, Some, None, refl, sym, ◌∙◌, inl, inr, arith}
+use Rattle.std.proofs.Common.{◌≡◌, ℕ, zero, suc, ◌+◌, ◌-◌, ◌*◌, ◌/◌, ◌%◌, ◌<◌, ◌≤◌, true, cond, List, [], ◌∷◌, Option, Some, None, refl, sym, ◌∙◌, inl, inr, arith}
 use Rattle.std.specs.Prelude.{slice_index, map}
-use Rattle.std.proofs.lemmas.Bool.{cases_eq, ltb-true, leb-true}
+use Rattle.std.proofs.lemmas.Bool.{cases_eq}
 use Rattle.std.proofs.lemmas.Bool.Decides.{nat_tests}
 use Rattle.resb_tree.specs.declared.resource.Resource.{Resource}
 use Rattle.resb_tree.specs.declared.resource.Resource.TheVariants as r
@@ -13,7 +13,7 @@ use Rattle.resb_tree.specs.declared.forms.TableForm.TheVariants as table
 use Rattle.resb_tree.specs.Words.{run, unit_in}
 use Rattle.resb_tree.specs.Keys.{distinct}
 use Rattle.resb_tree.specs.Contents.{items_in, entries_in}
-use Rattle.resb_tree.specs.Bodies.{◌>>=◌, when, Body, area_len, area_unit}
+use Rattle.resb_tree.specs.Bodies.{◌>>=◌, Body, area_len, area_unit}
 use Rattle.resb_tree.specs.Arrays.{all_of, array_at, short_array_at}
 use Rattle.resb_tree.specs.Tables.{entries_of, key_at, short_table_at}
 use Rattle.resb_tree.specs.Tree.{by_type, tree_at}
