@@ -281,3 +281,6 @@ integer_left b levels item t h same x y z items entries =
 
 pub index_here : (b : Body) (levels item : ℕ) → IsTree b levels item → item / 268435456 ≡ 7 → Some (item % 268435456) ≡ index_in (tree_there b levels item)
 index_here b levels item h e = rw (← integer_whole b levels item h e, out_of _ _ (rolls-Integer (item % 268435456))) (ap (λ (n : ℕ). Some n) (omega arith))
+
+-- what shows a text in place
+pub ruleset seen_text = (text_here, text_none, short_here, short_never)

@@ -93,6 +93,7 @@ impl<'a> Bundle<'a> {
 
 impl<'a> ResourceRef<'a> {
     /// The units of a text.
+    #[tactic(auto, using(crate::proofs::LeafParts::seen_text))]
     pub fn text(&self) -> Option<TextRef<'a>>
         ensures { result ≡ text_in self.now }
     {
@@ -138,6 +139,7 @@ impl<'a> ResourceRef<'a> {
     }
 
     /// The numbers of a list of integers, of 32 bits each.
+    #[tactic(auto, using(crate::proofs::LeafParts::integers_here, crate::proofs::LeafParts::integers_none, crate::proofs::Runs::slice_run))]
     pub fn integers(&self) -> Option<&'a [u32]>
         ensures { seen result ≡ integers_in self.now }
     {

@@ -19,6 +19,7 @@ use sqlite_items::Items;
 use std::alloc::{AllocError, Global};
 
 /// A text, bytes, numbers or one number.
+#[tactic(auto, using(crate::proofs::LeafParts::integer_left))]
 fn leaf_of(alloc: Global, from: &ResourceRef<'_>) -> Result<Resource, AllocError>
     requires items { items_in from.now ≡ None }
     requires entries { entries_in from.now ≡ None }
@@ -90,6 +91,7 @@ fn table_of(
 
 /// The tree of an item with so many levels.
 #[cycle(copy)]
+#[tactic(auto, using(crate::proofs::Parts::seen_items, crate::proofs::Parts::seen_entries))]
 pub fn tree_of(
     alloc: Global,
     body: &BodyWords<'_>,

@@ -17,11 +17,6 @@ tree_of-table_of-requires t c =
     let are = here.are in
     search rules
 
-pub tree_of-returns-in-Some : goal.tree_of-returns-in-Some
-tree_of-returns-in-Some t c =
-    let here = table_there (told c.args.body.now) c.args.levels c.args.item c.in-Some.form c.requires c.args.body.now.some c.in-Some.ensures in
-    rw (← here.is) c.table_of.ensures
-
 pub tree_of-overflow_sub-levels-in-Some-array_form : goal.tree_of-overflow_sub-levels-in-Some-array_form
 tree_of-overflow_sub-levels-in-Some-array_form t c = let low = (tree_is (told c.args.body.now) c.args.levels c.args.item c.requires).low in omega arith
 
@@ -34,14 +29,3 @@ tree_of-array_of-requires t c =
     let first = here.low in
     let are = here.are in
     search rules
-
-pub tree_of-returns-in-Some-array_form : goal.tree_of-returns-in-Some-array_form
-tree_of-returns-in-Some-array_form t c =
-    let here = array_there (told c.args.body.now) c.args.levels c.args.item c.in-Some-array_form.form c.requires c.args.body.now.some c.in-Some-array_form.ensures in
-    rw (← here.is) c.array_of.ensures
-
-pub tree_of-leaf_of-requires-clause-items : goal.tree_of-leaf_of-requires-clause-items
-tree_of-leaf_of-requires-clause-items t c = items_none (told c.args.body.now) c.args.levels c.args.item c.requires (sym c.in_default-array_form.is ∙ c.array_form.ensures)
-
-pub tree_of-leaf_of-requires-clause-entries : goal.tree_of-leaf_of-requires-clause-entries
-tree_of-leaf_of-requires-clause-entries t c = entries_none (told c.args.body.now) c.args.levels c.args.item c.requires (sym c.in_default.is ∙ c.table_form.ensures)

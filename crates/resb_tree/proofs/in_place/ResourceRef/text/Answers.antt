@@ -15,22 +15,7 @@ invariant_of-result c =
     let within = s.body.now.within in
     rw c.count_there-count.ensures (omega arith)
 
-pub returns-in-0 : goal.returns-in-0
-returns-in-0 c =
-    let s = c.self.inside in
-    rw (← c.self.view_is, c.count_there-count.ensures) ((text_here (told s.body.now) s.levels s.item c.self.invariant s.body.now.some c.in-0.is).is)
-
-pub returns-in_err-from-in-6 : goal.returns-in_err-from-in-6
-returns-in_err-from-in-6 c =
-    let s = c.self.inside in
-    absurd (short_never (told s.body.now) s.levels s.item c.self.invariant c.in-6.is (sym c.in_err-from-in-6.ensures.value))
-
 pub returns-in_ok-from-in-6 : goal.returns-in_ok-from-in-6
 returns-in_ok-from-in-6 c =
     let s = c.self.inside in
     rw (← c.self.view_is) (short_here (told s.body.now) s.levels s.item (c.in_ok-from-in-6.from, c.in_ok-from-in-6.count) c.self.invariant c.in-6.is (sym c.in_ok-from-in-6.ensures.value))
-
-pub returns-in_default : goal.returns-in_default
-returns-in_default c =
-    let s = c.self.inside in
-    rw (← c.self.view_is) (sym (text_none (told s.body.now) s.levels s.item c.self.invariant (omega arith) (omega arith)))
