@@ -6,6 +6,8 @@ use Rattle.std.specs.Cmp.Lexicographic.{slice_cmp}
 use Rattle.std.specs.List.{list_any}
 use Rattle.std.specs.Str.{bytes_eq}
 use Rattle.std.specs.Bool.{one_answer}
+use Rattle.std.proofs.Math.Bool.{and-false}
+use Rattle.std.proofs.lemmas.Bool.{not-false, not-true}
 use Rattle.std.proofs.lemmas.Map.Text.{is_eq-slice_cmp}
 use Rattle.std.proofs.lemmas.Slice.Eq.{bytes_eq-Decides}
 use Rattle.resb_tree.specs.Keys.{stands_in, distinct, keys_in}
@@ -28,30 +30,18 @@ keys_from es at d pos le =
     let s : suc (at - 1) ≡ at = omega arith in
     ap keys_in (drop-cons es (at - 1) d lt ∙ ap (λ n. get_or es (at - 1) d ∷ drop n es) s)
 
-and_false : (b : Bool) → (b && false) ≡ false
-and_false true = refl
-and_false false = refl
-
 -- keys that are not distinct from a place on are not distinct
 distinct_drop : {A : Type 0} (n : ℕ) (es : List (List ℕ × A)) → distinct (keys_in (drop n es)) ≡ false → distinct (keys_in es) ≡ false
 distinct_drop zero es h = h
 distinct_drop (suc n) [] h = h
-distinct_drop (suc n) (e ∷ es) h = rw (distinct_drop n es h) (and_false (not (stands_in e.0 (keys_in es))))
-
-is_had : (b : Bool) → false ≡ not b → b ≡ true
-is_had true h = refl
-is_had false h = h
-
-is_new : (b : Bool) → true ≡ not b → b ≡ false
-is_new true h = h
-is_new false h = refl
+distinct_drop (suc n) (e ∷ es) h = rw (distinct_drop n es h) (and-false (not (stands_in e.0 (keys_in es))))
 
 -- a key that the set has stands twice
 pub stands_twice : {A : Type 0} (es : List (List ℕ × A)) (at : ℕ) (d : List ℕ × A) (key : Bor (List ℕ)) (ks : List (Bor (List ℕ))) (added : Bool) → 0 < at → at ≤ length es
     → key.now ≡ (get_or es (at - 1) d).0 → list_any (λ k. bytes_eq key.now k.now) ks ≡ stands_in key.now (keys_in (drop at es))
     → added ≡ not (list_any (λ k. is_eq (by_bytes key k)) ks) → added ≡ false → false ≡ distinct (keys_in es)
 stands_twice es at d key ks added pos le e has told old =
-    let there : stands_in key.now (keys_in (drop at es)) ≡ true = sym has ∙ sym (has_is ks key) ∙ is_had _ (sym old ∙ told) in
+    let there : stands_in key.now (keys_in (drop at es)) ≡ true = sym has ∙ sym (has_is ks key) ∙ not-false _ (sym told ∙ old) in
     let twice : distinct (keys_in (drop (at - 1) es)) ≡ false = rw (keys_from es at d pos le, ← e, there) refl in
     sym (distinct_drop (at - 1) es twice)
 
@@ -60,7 +50,7 @@ pub stands_once : {A : Type 0} (es : List (List ℕ × A)) (at : ℕ) (d : List 
     → key.now ≡ (get_or es (at - 1) d).0 → list_any (λ k. bytes_eq key.now k.now) ks ≡ stands_in key.now (keys_in (drop at es)) → distinct (keys_in (drop at es)) ≡ true
     → added ≡ not (list_any (λ k. is_eq (by_bytes key k)) ks) → added ≡ true → distinct (keys_in (drop (at - 1) es)) ≡ true
 stands_once es at d key ks added pos le e has apart told new =
-    let absent : stands_in key.now (keys_in (drop at es)) ≡ false = sym has ∙ sym (has_is ks key) ∙ is_new _ (sym new ∙ told) in
+    let absent : stands_in key.now (keys_in (drop at es)) ≡ false = sym has ∙ sym (has_is ks key) ∙ not-true _ (sym told ∙ new) in
     rw (keys_from es at d pos le, ← e, absent, apart) refl
 
 -- the set with one more key

@@ -1,5 +1,5 @@
 -- What the walk leaves of a limit is the limit without the weight of the tree.
-use Rattle.std.proofs.Common.{◌≡◌, ℕ, zero, suc, ◌+◌, ◌-◌, ◌*◌, ◌/◌, ◌%◌, Bool, true, false, cond, leb, eqb, List, [], ◌∷◌, length, Option, Some, None, refl, ap, sym, ◌∙◌, inl, inr, arith}
+use Rattle.std.proofs.Common.{◌≡◌, ℕ, zero, suc, ◌+◌, ◌-◌, ◌*◌, ◌/◌, ◌%◌, ◌≤◌, Bool, true, false, cond, leb, eqb, List, [], ◌∷◌, length, Option, Some, None, refl, ap, sym, ◌∙◌, inl, inr, arith}
 use Rattle.std.specs.Prelude.{slice_index, map}
 use Rattle.std.proofs.lemmas.Bool.{le-leb, lt-leb}
 use Rattle.std.proofs.lemmas.Bool.Decides.{leb_tells, nat_tests}
@@ -45,20 +45,13 @@ bind_same : {A B : Type 0} (x : Option A) (f g : A → Option B) → ((a : A) �
 bind_same (Some a) f g h = h a
 bind_same None f g h = refl
 
+spent_next : (limit m n : ℕ) → m ≤ limit → spent (limit - m) n ≡ spent limit (m + n)
+spent_next limit m n le = grind (arith, nat_tests)
+
 spent_more : (limit m n : ℕ) → (spent limit m >>= λ left. spent left n) ≡ spent limit (m + n)
 spent_more limit m n = elim (leb_tells m limit) [
-  | inl one ↦ elim (leb_tells n (limit - m)) [
-    | inl two ↦
-        let both : leb (m + n) limit ≡ true = le-leb _ _ (omega (arith, one.1, two.1)) in
-        let left : limit - m - n ≡ limit - (m + n) = omega arith in
-        rw (one.0, both) (rw two.0 (ap (λ (k : ℕ). Some k) left))
-    | inr over ↦
-        let both : leb (m + n) limit ≡ false = lt-leb _ _ (omega (arith, one.1, over.1)) in
-        rw (one.0, both) (rw over.0 refl)
-  ]
-  | inr heavy ↦
-      let both : leb (m + n) limit ≡ false = lt-leb _ _ (omega (arith, heavy.1)) in
-      rw (heavy.0, both) refl
+  | inl one ↦ rw one.0 (spent_next limit m n one.1)
+  | inr heavy ↦ let both : leb (m + n) limit ≡ false = lt-leb _ _ (omega (arith, heavy.1)) in rw (heavy.0, both) refl
 ]
 
 -- one part, and those behind it

@@ -13,8 +13,6 @@ tree_of-table_of-requires t c =
     let low = (tree_is b c.args.levels c.args.item c.requires).low in
     let here = table_there b c.args.levels c.args.item c.in-Some.form c.requires c.args.body.now.some c.in-Some.ensures in
     let falls : 2 * (c.args.levels - 1) + 1 < 2 * c.args.levels = omega (arith, low) in
-    let first = here.low in
-    let are = here.are in
     search rules
 
 pub tree_of-overflow_sub-levels-in-Some-array_form : goal.tree_of-overflow_sub-levels-in-Some-array_form
@@ -26,6 +24,4 @@ tree_of-array_of-requires t c =
     let low = (tree_is b c.args.levels c.args.item c.requires).low in
     let here = array_there b c.args.levels c.args.item c.in-Some-array_form.form c.requires c.args.body.now.some c.in-Some-array_form.ensures in
     let falls : 2 * (c.args.levels - 1) + 1 < 2 * c.args.levels = omega (arith, low) in
-    let first = here.low in
-    let are = here.are in
     search rules
