@@ -1,7 +1,7 @@
 -- A resource's kind, and texts, bytes and numbers by where they stand.
 use Rattle.std.proofs.Common.{◌≡◌, ◌≢◌, ℕ, zero, suc, ◌+◌, ◌-◌, ◌*◌, ◌/◌, ◌%◌, ◌<◌, ◌≤◌, Bool, true, false, cond, leb, ltb, eqb, List, [], Option, Some, None, refl, ap, sym, ◌∙◌, inl, inr, arith}
 use Rattle.std.specs.Prelude.{slice_index, map, ◌&&◌}
-use Rattle.std.proofs.lemmas.Bool.{ltb-true, leb-true}
+use Rattle.std.proofs.lemmas.Bool.{and_parts, ltb-true, leb-true}
 use Rattle.std.proofs.lemmas.Bool.Decides.{eqb_tells, nat_tests}
 use Rattle.resb_tree.specs.declared.resource.Resource.{Resource, out-Resource, roll-Resource}
 use Rattle.resb_tree.specs.declared.resource.Resource.TheOpen.{Resource-F}
@@ -185,15 +185,12 @@ integers_none b levels item h a = (other_kinds (out-Resource (tree_there b level
 
 -- ---- counts
 
-both_hold : {A : Type 0} (p q : Bool) (x y : A) → when (p && q) x ≡ Some y → (p ≡ true) × (q ≡ true) × (x ≡ y)
-both_hold true q x y h = let f = when_some q x y h in (refl, f.0, f.1)
-both_hold false q x y h = cc
-
 -- a count stands below an end, and so does what is behind it
 pub count_fits : (v end : ℕ) (next : ℕ → ℕ) (count n : ℕ) → when (ltb v end && leb (next count) end) count ≡ Some n → (v < end) × (next n ≤ end) × (count ≡ n)
 count_fits v end next count n h =
-    let f = both_hold (ltb v end) (leb (next count) end) count n h in
-    (ltb-true _ _ f.0, rw (← f.2) (leb-true _ _ f.1), f.2)
+    let f = when_some (ltb v end && leb (next count) end) count n h in
+    let low = and_parts (ltb v end) (leb (next count) end) f.0 in
+    (ltb-true _ _ low.0, rw (← f.1) (leb-true _ _ low.1), f.1)
 
 -- or there is none where the place is 0
 pub count_here : (v end : ℕ) (next : ℕ → ℕ) (count n : ℕ) → (v ≡ 0 → next 0 ≤ end) → 0 < end → cond (eqb v 0) (Some 0) (when (ltb v end && leb (next count) end) count) ≡ Some n

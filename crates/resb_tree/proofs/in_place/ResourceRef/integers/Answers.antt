@@ -1,8 +1,6 @@
-use Rattle.std.proofs.Common.{◌+◌, ◌%◌, ◌≤◌, length, sym, arith}
+use Rattle.std.proofs.Common.{arith}
 use Rattle.resb_tree.specs.Forms.{told}
-use Rattle.resb_tree.specs.Inside.Parts.{count_there}
-use Rattle.resb_tree.proofs.Runs.{slice_run}
-use Rattle.resb_tree.proofs.LeafParts.{integers_here, integers_none}
+use Rattle.resb_tree.proofs.LeafParts.{integers_here}
 use Rattle.resb_tree.proofs.in_place.ResourceRef.integers.Goals as goal
 
 pub count_there-count-requires : goal.count_there-count-requires

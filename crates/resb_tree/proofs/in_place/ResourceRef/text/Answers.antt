@@ -1,6 +1,6 @@
 use Rattle.std.proofs.Common.{sym, arith}
 use Rattle.resb_tree.specs.Forms.{told}
-use Rattle.resb_tree.proofs.LeafParts.{text_here, text_none, short_here, short_never}
+use Rattle.resb_tree.proofs.LeafParts.{text_here, short_here}
 use Rattle.resb_tree.proofs.in_place.ResourceRef.text.Goals as goal
 
 pub count_there-count-requires : goal.count_there-count-requires
