@@ -1,6 +1,6 @@
 #!/usr/bin/env bash
 # Measures what it costs to read a bundle: instructions, also for each of its words, and peak memory. The bundles are the
-# one of the system's ICU, one of 20,000 zones, and two of a million words that are made to cost much, and are refused.
+# one of the system's ICU, one of 20,000 zones, and three of a million words that are made to cost much, and are refused.
 # Each run has an empty input. Its instructions are printed whole, which is what the wanted number is held against, and
 # without those of a run with a bundle of 52 words, which are mostly the program's start. A tool that is missing is skipped.
 # Ends with 1 where a run ends with another status than it has to.
