@@ -13,6 +13,7 @@ ghost use Rattle.zoneinfo64.specs.Inside.RuleView.{rule_for};
 use crate::error::BinaryDeserializerError;
 use crate::parts::{ZoneParts, zone_parts};
 use crate::region::Region;
+use crate::rule_words::signed;
 use crate::rules::{Rules, rule_by_text};
 use resb_tree::{ResourceRef, TextRef};
 use sqlite_items::Items;
@@ -47,13 +48,6 @@ pub fn region_of(units: &TextRef<'_>) -> Option<Region>
         region_byte_at(units, 1),
         region_byte_at(units, 2),
     ])
-}
-
-/// 32 bits with their sign.
-fn signed(word: u32) -> i32
-    ensures { result ≡ as_i32 word }
-{
-    word.cast_signed()
 }
 
 /// Standard offset and extra, where their sum fits.

@@ -9,7 +9,7 @@ ghost use Rattle.zoneinfo64.specs.Inside.DateWords.{by_dates};
 use timeline::{DayRule, RuleDate, RuleDates, TimeMode};
 
 /// 32 bits with their sign.
-fn signed(word: u32) -> i32
+pub(crate) fn signed(word: u32) -> i32
     ensures { result ≡ as_i32 word }
 {
     word.cast_signed()
