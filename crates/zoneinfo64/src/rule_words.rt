@@ -1,5 +1,5 @@
 //! The dates of a yearly rule, from the eleven integers that a bundle has for it.
-ghost use Rattle.std.specs.Prelude.{◌≡◌, ◌≤◌, ◌&&◌, IfSome, option_map, unsigned_abs};
+ghost use Rattle.std.specs.Prelude.{◌≡◌, ◌≤◌, IfSome, option_map, unsigned_abs};
 ghost use Rattle.timeline.specs.DateView.{mode_number, plain_date, raw_of};
 ghost use Rattle.timeline.specs.Ranges.{IsDateInRange, AreDatesInRange};
 ghost use Rattle.zoneinfo64.specs.RuleDates.{as_i32, longest_month, between, is_rule_day, is_date, date_from, date_rule};
@@ -57,24 +57,16 @@ fn is_rule_day(month: u32, code: u32, day: u32) -> bool
     }
 }
 
-fn all(a: bool, b: bool, c: bool, d: bool, e: bool) -> bool
-    ensures { result ≡ (a && b && c && d && e) }
-{
-    a && b && c && d && e
-}
-
 /// Whether five numbers are a date.
 fn is_date(month: u32, day: u32, code: u32, seconds: u32, mode: u32) -> bool
     ensures { result
         ≡ is_date (as_i32 month) (as_i32 day) (as_i32 code) (as_i32 seconds) (as_i32 mode) }
 {
-    all(
-        between(0, 11, month),
-        between(-7, 7, code),
-        between(0, 86_400, seconds),
-        between(0, 2, mode),
-        is_rule_day(size(month), code, day),
-    )
+    between(0, 11, month)
+        && between(-7, 7, code)
+        && between(0, 86_400, seconds)
+        && between(0, 2, mode)
+        && is_rule_day(size(month), code, day)
 }
 
 /// What the seconds of a date are counted by.
