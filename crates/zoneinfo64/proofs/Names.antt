@@ -271,7 +271,3 @@ zone-missing es slice zones t are same view missing =
 pub zone-within : (es : List Named) (zones : List NamedZone) (n : ℕ) → AreEntries es → zones_of es ≡ zones → n < length es → IsTrue (is_some (resolved_in zones (slice_get zones n)))
 zone-within es zones n are view lt =
     subst (λ (zs : List NamedZone). IsTrue (is_some (resolved_in zs (slice_get zs n)))) view (answer_within (zones_of es) es n are.resolved lt)
-
-pub place-within : (zones : List NamedZone) (at : Option NamedZone) (n : ℕ) → at ≡ slice_get zones n → IsTrue (is_some (resolved_in zones at)) → n < length zones
-place-within zones None n is some = let none = some in cc
-place-within zones (Some e) n is some = slice_get_within zones n e (sym is)

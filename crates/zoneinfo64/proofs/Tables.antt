@@ -1,12 +1,10 @@
 -- The table of a zone as it is read: its seconds, and the numbers of its pairs.
-use Rattle.std.proofs.Common.{◌≡◌, ℕ, suc, ◌-◌, ◌<◌, ◌≤◌, ◌⊎◌, inl, inr, List, [], ◌∷◌, ◌++◌, length, take, drop, get_or, map, Option, Some, None, ℤ, pos, refl, sym, ◌∙◌, append_assoc, arith}
+use Rattle.std.proofs.Common.{◌≡◌, ℕ, suc, ◌-◌, ◌<◌, ◌⊎◌, inl, inr, List, [], ◌∷◌, length, Option, Some, None, ℤ, pos, refl, arith}
 use Rattle.std.specs.List.{slice_get}
-use Rattle.std.proofs.lemmas.List.{take_all, append-nil}
 use Rattle.std.proofs.lemmas.List.Elements.{All-nil, All-cons}
 use Rattle.std.proofs.lemmas.Option.{slice_get-get_or, slice_get_within}
 use Rattle.timeline.specs.Table.{table_from}
-use Rattle.zoneinfo64.specs.Inside.Steps.{wide, wide_second, AreKnown}
-use Rattle.zoneinfo64.specs.RuleDates.{as_i32}
+use Rattle.zoneinfo64.specs.Inside.Steps.{AreKnown}
 use Rattle.zoneinfo64.specs.ZoneFields.{table_of}
 
 -- where each second has the number of a pair there is a table
@@ -37,33 +35,3 @@ table_refused pairs seconds numbers apart = elim (table_known pairs seconds numb
   | inl none ↦ none
   | inr known ↦ absurd (apart known)
 ]
-
--- ---- seconds, as loops append them
-
--- one more was appended
-pub wide_more : (front now : List ℤ) (words : List ℕ) (total : List ℤ) → 2 ≤ length words → now ≡ front ++ wide_second (get_or words 0 0) (get_or words 1 0) ∷ [] → front ++ wide words ≡ total
-    → now ++ wide (take (length words - 2) (drop 2 words)) ≡ total
-wide_more front now [] total some is so_far = absurd (omega arith)
-wide_more front now (a ∷ []) total some is so_far = absurd (omega arith)
-wide_more front now (a ∷ b ∷ words) total some is so_far =
-    let others : take (length (a ∷ b ∷ words) - 2) words ≡ words = take_all _ words (omega arith) in
-    let moved : front ++ wide_second a b ∷ [] ++ wide words ≡ front ++ wide_second a b ∷ wide words = simp append_assoc in
-    rw (is, others) (moved ∙ so_far)
-
-pub narrow_more : (front now : List ℤ) (words : List ℕ) (total : List ℤ) → 1 ≤ length words → now ≡ front ++ as_i32 (get_or words 0 0) ∷ [] → front ++ map as_i32 words ≡ total
-    → now ++ map as_i32 (take (length words - 1) (drop 1 words)) ≡ total
-narrow_more front now [] total some is so_far = absurd (omega arith)
-narrow_more front now (a ∷ words) total some is so_far =
-    let others : take (length (a ∷ words) - 1) words ≡ words = take_all _ words (omega arith) in
-    let moved : front ++ as_i32 a ∷ [] ++ map as_i32 words ≡ front ++ as_i32 a ∷ map as_i32 words = simp append_assoc in
-    rw (is, others) (moved ∙ so_far)
-
--- none is left
-pub wide_all : (front : List ℤ) (words : List ℕ) (total : List ℤ) → length words < 2 → front ++ wide words ≡ total → front ≡ total
-wide_all front [] total few so_far = sym (append-nil front) ∙ so_far
-wide_all front (a ∷ []) total few so_far = sym (append-nil front) ∙ so_far
-wide_all front (a ∷ b ∷ words) total few so_far = absurd (omega arith)
-
-pub narrow_all : (front : List ℤ) (words : List ℕ) (total : List ℤ) → length words < 1 → front ++ map as_i32 words ≡ total → front ≡ total
-narrow_all front [] total few so_far = sym (append-nil front) ∙ so_far
-narrow_all front (a ∷ words) total few so_far = absurd (omega arith)

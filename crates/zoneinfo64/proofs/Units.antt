@@ -25,10 +25,6 @@ lone_first u v us h = by (is_high_surrogate u && is_low_surrogate v) refl
     by true e = let is : Some (surrogate_pair_char u v) ≡ None = rw e at h in cc
     by false e = rw e refl
 
-pub lone_last : (u : ℕ) → utf16_lossy_chars (u ∷ []) ≡ unwrap_or (lone_unit_char u) 65533 ∷ []
-unfolding utf16_chars
-lone_last u = refl
-
 abbrev paired : ℕ → ℕ → Option ℕ
 paired u v = if is_high_surrogate u && is_low_surrogate v then Some (surrogate_pair_char u v) else None
 
