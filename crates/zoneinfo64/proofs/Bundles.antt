@@ -1,6 +1,7 @@
 -- A bundle is read step by step.
 use Rattle.std.proofs.Common.{◌≡◌, ℕ, suc, ◌<◌, ◌≤◌, true, List, [], ◌∷◌, length, Option, Some, None, IsSome, Err, refl, sym, ap, ◌∙◌, codes}
 use Rattle.std.proofs.lemmas.Bool.{and_parts, leb-true, ltb-true}
+use Rattle.std.proofs.lemmas.Option.{same_Some}
 use Rattle.resb_tree.specs.Bodies.{◌>>=◌}
 use Rattle.resb_tree.specs.Header.{tree_of}
 use Rattle.resb_tree.specs.Contents.{index_in}
@@ -69,15 +70,12 @@ list_same f g same (z ∷ zones) (n ∷ names) (r ∷ regions) = rw (named_same 
 
 -- ---- the list
 
-some_same : {A : Type 0} (x y : A) → Some x ≡ Some y → x ≡ y
-some_same x y e = cc
-
 -- the parts of a list that has a first zone
 parts : (first : Option NamedZone) (more : Option (List NamedZone)) (list : List NamedZone) → (first >>= λ x. more >>= λ xs. Some (x ∷ xs)) ≡ Some list
     → (x : NamedZone) × (xs : List NamedZone) × (first ≡ Some x) × (more ≡ Some xs) × (x ∷ xs ≡ list)
 parts None more list e = cc
 parts (Some x) None list e = cc
-parts (Some x) (Some xs) list e = (x, xs, refl, refl, some_same (x ∷ xs) list e)
+parts (Some x) (Some xs) list e = (x, xs, refl, refl, same_Some (x ∷ xs) list e)
 
 -- a list that is read is as long as the three arrays
 pub record AreLong (list : List NamedZone) (zones names regions : List Resource) : Type 0 where
@@ -86,7 +84,7 @@ pub record AreLong (list : List NamedZone) (zones names regions : List Resource)
   pub as_regions : length list ≡ length regions
 
 pub lengths : (find : Find) (zones names regions : List Resource) (list : List NamedZone) → named_zones find zones names regions ≡ Some list → AreLong list zones names regions
-lengths find [] [] [] list e = let same : [] ≡ list = some_same [] list e in rw (← same) (record { as_zones = refl; as_names = refl; as_regions = refl })
+lengths find [] [] [] list e = let same : [] ≡ list = same_Some [] list e in rw (← same) (record { as_zones = refl; as_names = refl; as_regions = refl })
 lengths find [] [] (r ∷ regions) list e = cc
 lengths find [] (n ∷ names) regions list e = cc
 lengths find (z ∷ zones) [] regions list e = cc

@@ -4,7 +4,7 @@ use Rattle.std.proofs.Common.{◌≡◌, ℕ, zero, suc, ◌+◌, ◌<◌, ◌�
 use Rattle.std.proofs.lemmas.Bool.Decides.{nat_tests}
 use Rattle.std.proofs.lemmas.Cmp.{alike_right}
 use Rattle.std.proofs.lemmas.Option.{slice_get_within}
-use Rattle.std.specs.Cmp.{first_so, second_so}
+use Rattle.std.specs.Cmp.{Equal-is, first_so, second_so}
 use Rattle.std.specs.List.{slice_get, find, position_or_len}
 use Rattle.std.specs.Ordering.{nat_cmp, is_lt, is_eq, ordering_reverse}
 use Rattle.std.specs.declared.cmp.Ordering.{Ordering}
@@ -141,15 +141,10 @@ found-is es are t m e at_m equal =
     (λ k f at_k lt. same-order f t ∙ ap is_eq (sym (alike_right nat_list_cmp_total (text e) t (text f) equal) ∙ texts_rise es are.rising k m f e at_k at_m lt)))
     (slice_get_within es m e at_m)
 
-tied : (o : Ordering) → is_eq o ≡ true → o ≡ Equal
-tied Less h = cc
-tied Equal h = refl
-tied Greater h = cc
-
 -- the same, by one test
 pub same-is : (es : List Named) → AreEntries es → (t : List ℕ) (m : ℕ) (e : Named) → slice_get es m ≡ Some e → bytes_eq (text e) t ≡ true
     → position (has_text t) es ≡ Some m
-same-is es are t m e at_m same = found-is es are t m e at_m (tied _ (sym (same-order e t) ∙ same))
+same-is es are t m e at_m same = found-is es are t m e at_m ((Equal-is (order (text e) t)).0 (sym (same-order e t) ∙ same))
 
 -- with every entry below the text or above it there is none
 pub missing-is : (es : List Named) (t : List ℕ) (n : ℕ)

@@ -4,6 +4,7 @@ use Rattle.std.specs.declared.alloc.Global.{Global}
 use Rattle.std.specs.Ordering.{nat_cmp, is_eq, ordering_reverse}
 use Rattle.std.specs.declared.cmp.Ordering.{Ordering}
 use Rattle.std.specs.declared.cmp.Ordering.TheVariants.{Less, Equal, Greater}
+use Rattle.std.specs.Cmp.{Equal-is}
 use Rattle.std.specs.Cmp.Lexicographic.{slice_cmp, nat_list_cmp_total, texts_ties}
 use Rattle.std.specs.Str.{bytes_eq}
 use Rattle.std.specs.List.{slice_get}
@@ -38,15 +39,10 @@ reversed Less = refl
 reversed Equal = refl
 reversed Greater = refl
 
-is_equal : (o : Ordering) → is_eq o ≡ true → o ≡ Equal
-is_equal Less h = cc
-is_equal Equal h = refl
-is_equal Greater h = cc
-
 -- a text that is a key is none that is greater
 apart : (text key other : List ℕ) → order key other ≡ Greater → is_eq (order text other) ≡ true → is_eq (order text key) ≡ false
 apart text key other greater same =
-    let equal : order text other ≡ Equal = is_equal _ same in
+    let equal : order text other ≡ Equal = (Equal-is (order text other)).0 same in
     let back : order other key ≡ Less = nat_list_cmp_total.antisymm other key ∙ ap ordering_reverse greater in
     let less : order text key ≡ Less = nat_list_cmp_total.congr text other key equal ∙ back in
     ap is_eq less

@@ -1,6 +1,7 @@
 -- Rules by their dates.
 use Rattle.std.proofs.Common.{◌≡◌, ℕ, ◌<◌, ◌≤◌, Bool, true, false, cond, List, [], ◌∷◌, length, get_or, Option, Some, None, ℤ, pos, negsuc, ◌≤ℤ◌, refl, ap, ◌∙◌, arith}
 use Rattle.resb_tree.specs.Bodies.{◌>>=◌}
+use Rattle.std.proofs.lemmas.Bool.{and_parts}
 use Rattle.std.proofs.lemmas.Bool.Decides.{nat_tests}
 use Rattle.std.specs.Prelude.{unsigned_abs, int_le, int_lt, nat_le, ◌&&◌}
 use Rattle.std.specs.Ordering.{int_eq}
@@ -19,12 +20,8 @@ pub date_refused : (month day code seconds mode : ℤ) → is_date month day cod
 unfolding date_rule
 date_refused month day code seconds mode h = rw h refl
 
-both : (a b : Bool) → (a && b) ≡ true → (a ≡ true) × (b ≡ true)
-both true b h = (refl, h)
-both false b h = cc
-
 between_is : (low high z : ℤ) → between low high z ≡ true → (low ≤ℤ z) × (z ≤ℤ high)
-between_is low high z h = let parts = both (int_le low z) (int_le z high) h in (omega (arith, signed_arith, parts.0), omega (arith, signed_arith, parts.1))
+between_is low high z h = let parts = and_parts (int_le low z) (int_le z high) h in (omega (arith, signed_arith, parts.0), omega (arith, signed_arith, parts.1))
 
 longest_few : (a b : Bool) → cond a 29 (cond b 30 31) ≤ 31
 longest_few true b = omega arith
@@ -37,15 +34,15 @@ day_by : (p q : Bool) (day : ℤ) (longest : ℕ) → longest ≤ 31
     → (1 ≤ unsigned_abs day) × (unsigned_abs day ≤ 31)
 day_by true q day longest few h = let parts = between_is (pos 1) (pos longest) day h in (omega (arith, signed_arith, parts.0, one_part day), omega (arith, signed_arith, parts.1, parts.0, one_part day))
 day_by false true day longest few h = let parts = between_is (pos 1) (pos 5) day h in (omega (arith, signed_arith, parts.0, one_part day), omega (arith, signed_arith, parts.1, parts.0, one_part day))
-day_by false false day longest few h = let parts = both (nat_le 1 (unsigned_abs day)) (nat_le (unsigned_abs day) longest) h in (grind (arith, nat_tests, parts.0), grind (arith, nat_tests, parts.1))
+day_by false false day longest few h = let parts = and_parts (nat_le 1 (unsigned_abs day)) (nat_le (unsigned_abs day) longest) h in (grind (arith, nat_tests, parts.0), grind (arith, nat_tests, parts.1))
 
 -- five numbers that are a date have places
 pub date_good : (month day code seconds mode : ℤ) → is_date month day code seconds mode ≡ true → IsDateInRange (date_from month day code seconds mode)
 date_good month day code seconds mode h =
-    let a = both (between (pos 0) (pos 11) month && between (negsuc 6) (pos 7) code && between (pos 0) (pos 86400) seconds && between (pos 0) (pos 2) mode) (is_rule_day (unsigned_abs month) code day) h in
-    let b = both (between (pos 0) (pos 11) month && between (negsuc 6) (pos 7) code && between (pos 0) (pos 86400) seconds) (between (pos 0) (pos 2) mode) a.0 in
-    let c = both (between (pos 0) (pos 11) month && between (negsuc 6) (pos 7) code) (between (pos 0) (pos 86400) seconds) b.0 in
-    let d = both (between (pos 0) (pos 11) month) (between (negsuc 6) (pos 7) code) c.0 in
+    let a = and_parts (between (pos 0) (pos 11) month && between (negsuc 6) (pos 7) code && between (pos 0) (pos 86400) seconds && between (pos 0) (pos 2) mode) (is_rule_day (unsigned_abs month) code day) h in
+    let b = and_parts (between (pos 0) (pos 11) month && between (negsuc 6) (pos 7) code && between (pos 0) (pos 86400) seconds) (between (pos 0) (pos 2) mode) a.0 in
+    let c = and_parts (between (pos 0) (pos 11) month && between (negsuc 6) (pos 7) code) (between (pos 0) (pos 86400) seconds) b.0 in
+    let d = and_parts (between (pos 0) (pos 11) month) (between (negsuc 6) (pos 7) code) c.0 in
     let months = between_is (pos 0) (pos 11) month d.0 in
     let modes = between_is (pos 0) (pos 2) mode b.1 in
     let times = between_is (pos 0) (pos 86400) seconds c.1 in

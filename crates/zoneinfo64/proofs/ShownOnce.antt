@@ -1,8 +1,9 @@
 -- The offsets by which a wall second is shown, where it is shown never, once or twice.
-use Rattle.std.proofs.Common.{◌≡◌, ℕ, zero, suc, ◌+◌, ◌-◌, ◌<◌, inl, inr, [], ◌∷◌, Bool, true, false, ℤ, pos, negsuc, ◌-ℤ◌, refl, sym, ap, ◌∙◌, arith}
+use Rattle.std.proofs.Common.{◌≡◌, ℕ, zero, suc, ◌+◌, ◌-◌, ◌<◌, inl, inr, [], ◌∷◌, true, false, ℤ, pos, negsuc, ◌-ℤ◌, refl, sym, ap, ◌∙◌, arith}
 use Rattle.std.specs.Ordering.{int_eq}
 use Rattle.std.proofs.lemmas.Int.{ints}
-use Rattle.std.proofs.lemmas.Bool.{cases_order}
+use Rattle.std.proofs.lemmas.Bool.{cases_order, false_from_ne_true}
+use Rattle.std.proofs.lemmas.Bool.Decides.{Decides-int_eq}
 use Rattle.civil.specs.Shown.{Shows, IsNeverShown, IsShownOnce, IsShownTwice}
 use Rattle.zoned.specs.declared.offset.MappedLocalTime.TheVariants as Mapped
 use Rattle.zoned.specs.declared.offset.CivilOffset.{CivilOffset}
@@ -70,18 +71,8 @@ two_of off w (suc n) i j less lt here also out =
 
 -- ---- by the number of an offset
 
-int_eq_true : (a b : ℤ) → int_eq a b ≡ true → a ≡ b
-int_eq_true a b h = grind (arith, ints)
-
-int_eq-true : (a b : ℤ) → a ≡ b → int_eq a b ≡ true
-int_eq-true a b h = grind (arith, ints)
-
 int_eq-false : (a b : ℤ) → (a ≡ b → ⊥) → int_eq a b ≡ false
-int_eq-false a b h = by (int_eq a b) refl
-  where
-    by : (c : Bool) → int_eq a b ≡ c → int_eq a b ≡ false
-    by true is = absurd (h (int_eq_true a b is))
-    by false is = is
+int_eq-false a b h = false_from_ne_true (int_eq a b) (λ is. h ((Decides-int_eq a b).0 is))
 
 -- the number of an offset of less than a day
 number_of : (o : ℤ) → IsSmall o → (i : ℕ) × (i < 172799) × (offset_number i ≡ o)
@@ -92,7 +83,7 @@ number_of (negsuc n) small = let from = small.0 in (86398 - n, omega (arith, int
 shown_then : (off : ℤ → ℤ) (w t : ℤ) (i : ℕ) → Shows off t w → offset_number i ≡ off t → is_shown_by off w i ≡ true
 shown_then off w t i shows is =
     let here : w -ℤ offset_number i ≡ t = omega (arith, ints, shows, is) in
-    int_eq-true _ _ (ap off here ∙ sym is)
+    (Decides-int_eq (off (w -ℤ offset_number i)) (offset_number i)).1 (ap off here ∙ sym is)
 
 then_shown : (off : ℤ → ℤ) (w : ℤ) (i : ℕ) → off (w -ℤ offset_number i) ≡ offset_number i → Shows off (w -ℤ offset_number i) w
 then_shown off w i is = omega (arith, ints, is)
