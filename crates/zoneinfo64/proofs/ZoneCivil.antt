@@ -19,10 +19,11 @@ use Rattle.timeline.specs.Laws.{IsLawful}
 use Rattle.timeline.specs.TableLaws.{IsSmall}
 use Rattle.timeline.specs.Lookups.{AnswersWall}
 use Rattle.timeline.specs.OffsetPromises.{AreSides}
-use Rattle.zoneinfo64.specs.OffsetView.{cut_to_day, civil_of, offset_told, seconds_told}
+use Rattle.zoneinfo64.specs.OffsetView.{cut_to_day, offset_told, seconds_told}
 use Rattle.zoneinfo64.specs.ShownOffsets.{shown_offsets}
 use Rattle.zoneinfo64.specs.declared.chrono.ChronoOffset.{ChronoOffset}
 use Rattle.zoneinfo64.specs.ZoneOffsets.{off_in}
+use Rattle.zoneinfo64.specs.Inside.CivilView.{civil_of}
 use Rattle.zoneinfo64.specs.Inside.LawsBelow.{LawsBelow}
 use Rattle.zoneinfo64.proofs.ShownOnce.{shown-offsets}
 

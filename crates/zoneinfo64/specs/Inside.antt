@@ -1,4 +1,5 @@
 -- What serves private contracts alone: no reader needs it to know what the crate does.
+pub mod CivilView
 pub mod DateWords
 pub mod LawsBelow
 pub mod RuleView

@@ -2,10 +2,6 @@
 use Rattle.std.specs.Prelude.{ℤ, pos, negsuc}
 use Rattle.std.specs.Int.{int_max, int_min}
 use Rattle.timeline.specs.declared.offset.Offset.{Offset}
-use Rattle.timeline.specs.declared.offset.PossibleOffset.{PossibleOffset}
-use Rattle.timeline.specs.declared.offset.PossibleOffset.TheVariants as possible
-use Rattle.zoned.specs.declared.offset.CivilOffset.{CivilOffset}
-use Rattle.zoned.specs.declared.offset.CivilOffset.TheVariants as Civil
 use Rattle.zoneinfo64.specs.declared.zone.Zone.{Zone}
 use Rattle.zoneinfo64.specs.declared.chrono.ChronoOffset.{ChronoOffset}
 
@@ -24,9 +20,3 @@ cut_to_day seconds = int_max (negsuc 86398) (int_min seconds (pos 86399))
 -- its seconds, cut to less than a day
 abbrev pub seconds_told : ChronoOffset → ℤ
 seconds_told o = cut_to_day (offset_told o).offset
-
--- the offsets of a look-up's answer
-abbrev pub civil_of : PossibleOffset → CivilOffset Offset
-civil_of (possible.Single o) = Civil.Single o
-civil_of (possible.Ambiguous before after transition) = Civil.Ambiguous before after
-civil_of (possible.None before after transition) = Civil.Gap before after

@@ -2,7 +2,8 @@
 ghost use Rattle.std.specs.Prelude.{◌≡◌, ℤ, pos, ◌*ℤ◌};
 ghost use Rattle.zoned.specs.CivilAnswers.{AllCivil, IsCivil, civil_map, mapped_of};
 ghost use Rattle.zoned.specs.Moment.{seconds_east};
-ghost use Rattle.zoneinfo64.specs.OffsetView.{offset_told, zone_told, seconds_told, cut_to_day, civil_of};
+ghost use Rattle.zoneinfo64.specs.OffsetView.{offset_told, zone_told, seconds_told, cut_to_day};
+ghost use Rattle.zoneinfo64.specs.Inside.CivilView.{civil_of};
 ghost use Rattle.zoneinfo64.specs.ZoneOffsets.{zone_off, zone_local, IsSound};
 
 use crate::below::laws_below;
