@@ -12,7 +12,8 @@ use Rattle.resb_tree.specs.declared.resource.Resource.TheOpen.{Resource-F}
 use Rattle.zoneinfo64.specs.declared.parts.Field.{Field}
 use Rattle.zoneinfo64.specs.declared.parts.Field.TheVariants as field
 use Rattle.zoneinfo64.specs.declared.parts.ZoneParts.{ZoneParts}
-use Rattle.zoneinfo64.specs.Inside.ZoneParts.{key_of, field_named, first_or, with_field, parts_in, parts_of}
+use Rattle.zoneinfo64.specs.Inside.FieldKeys.{key_of, field_named}
+use Rattle.zoneinfo64.specs.Inside.ZoneParts.{first_or, with_field, parts_in, parts_of}
 
 abbrev Entries : Type 0
 Entries = List (List ℕ × Resource)

@@ -4,7 +4,7 @@ use Rattle.std.proofs.lemmas.Bool.{and_parts, and_from}
 use Rattle.std.proofs.lemmas.List.{take_all}
 use Rattle.timeline.specs.Zone.{fits_i32}
 use Rattle.timeline.specs.Table.{sums_fit}
-use Rattle.zoneinfo64.specs.Inside.Steps.{with_front}
+use Rattle.zoneinfo64.specs.Inside.ListSteps.{with_front}
 use Rattle.zoneinfo64.specs.RuleDates.{as_i32}
 use Rattle.zoneinfo64.specs.ZoneLists.{pair_of, offset_pairs}
 use Rattle.zoneinfo64.proofs.Fronts.{front_grows}

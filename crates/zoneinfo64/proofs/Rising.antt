@@ -2,7 +2,7 @@
 use Rattle.std.proofs.Common.{◌≡◌, ℕ, suc, ◌+◌, ◌-◌, ◌<◌, ◌≤◌, List, [], ◌∷◌, length, drop, get_or, true, false, ◌&&◌, refl, sym, ◌∙◌, drop-cons, length-drop, arith}
 use Rattle.zoneinfo64.specs.declared.zone.Named.{Named}
 use Rattle.zoneinfo64.specs.Bundle.{rises}
-use Rattle.zoneinfo64.specs.Inside.Steps.{is_before}
+use Rattle.zoneinfo64.specs.Inside.ZoneSteps.{is_before}
 use Rattle.zoneinfo64.specs.Inside.ZoneList.{named_of, zones_of}
 
 from : (xs : List Named) (at next : ℕ) (x : Named) → next ≡ suc at → at < length xs → x ≡ get_or xs at x → drop at xs ≡ x ∷ drop next xs

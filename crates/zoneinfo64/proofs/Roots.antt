@@ -5,7 +5,8 @@ use Rattle.zoneinfo64.specs.declared.error.BinaryDeserializerError.{BinaryDeseri
 use Rattle.zoneinfo64.specs.declared.error.BinaryDeserializerError.TheVariants as errors
 use Rattle.timeline.specs.Zone.{RawRule}
 use Rattle.zoneinfo64.specs.Bundle.{array_in, table_in, zone_list}
-use Rattle.zoneinfo64.specs.Inside.Steps.{Reads, ReadsRules}
+use Rattle.zoneinfo64.specs.Inside.Steps.{Reads}
+use Rattle.zoneinfo64.specs.Inside.RuleSteps.{ReadsRules}
 use Rattle.zoneinfo64.specs.RuleFields.{rules_of}
 
 -- where a part is not read, the whole is not

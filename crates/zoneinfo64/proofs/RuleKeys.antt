@@ -17,7 +17,8 @@ use Rattle.resb_tree.specs.declared.resource.Resource.{Resource}
 use Rattle.zoneinfo64.specs.declared.error.BinaryDeserializerError.{BinaryDeserializerError}
 use Rattle.zoneinfo64.specs.declared.error.BinaryDeserializerError.TheVariants as errors
 use Rattle.timeline.specs.Zone.{RawRule}
-use Rattle.zoneinfo64.specs.Inside.Steps.{Reads, ReadsRules, HasRules, rule_in}
+use Rattle.zoneinfo64.specs.Inside.Steps.{Reads}
+use Rattle.zoneinfo64.specs.Inside.RuleSteps.{ReadsRules, HasRules, rule_in}
 use Rattle.zoneinfo64.specs.RuleFields.{raw_rule, rules_of, rule_named}
 use Rattle.zoneinfo64.specs.Inside.RuleView.{rule_for}
 use Rattle.zoneinfo64.proofs.FieldParts.{drop_one}

@@ -4,7 +4,7 @@ use Rattle.std.specs.List.{slice_get}
 use Rattle.std.proofs.lemmas.List.Elements.{All-nil, All-cons}
 use Rattle.std.proofs.lemmas.Option.{slice_get-get_or, slice_get_within}
 use Rattle.timeline.specs.Table.{table_from}
-use Rattle.zoneinfo64.specs.Inside.Steps.{AreKnown}
+use Rattle.zoneinfo64.specs.Inside.ListSteps.{AreKnown}
 use Rattle.zoneinfo64.specs.ZoneFields.{table_of}
 
 -- where each second has the number of a pair there is a table

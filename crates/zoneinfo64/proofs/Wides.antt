@@ -1,6 +1,6 @@
 -- Seconds of 64 bits in words.
 use Rattle.std.proofs.Common.{◌≡◌, ℕ, ◌/◌, ◌%◌, List, [], ◌∷◌, length, Some, None, refl, arith}
-use Rattle.zoneinfo64.specs.Inside.Steps.{wide}
+use Rattle.zoneinfo64.specs.Inside.ListSteps.{wide}
 use Rattle.zoneinfo64.specs.ZoneLists.{wide_seconds}
 
 pub wide_even : (words : List ℕ) → length words % 2 ≡ 0 → wide_seconds words ≡ Some (wide words)

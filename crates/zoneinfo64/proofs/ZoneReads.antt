@@ -4,8 +4,9 @@ use Rattle.std.specs.Prelude.{◌==◌}
 use Rattle.resb_tree.specs.declared.resource.Resource.{Resource}
 use Rattle.timeline.specs.Zone.{RawRule, PlainRule}
 use Rattle.timeline.specs.Table.{PlainSeconds, pair_offset, pair_of_number, zone_from}
-use Rattle.zoneinfo64.specs.Inside.Steps.{AreKnown, wide, seconds_of, plain_seconds}
-use Rattle.zoneinfo64.specs.Inside.ZoneParts.{offsets_in, words_in, numbers_in, wide_in, parts_of, zone_in}
+use Rattle.zoneinfo64.specs.Inside.ListSteps.{AreKnown, wide, seconds_of, plain_seconds}
+use Rattle.zoneinfo64.specs.Inside.FromParts.{offsets_in, words_in, numbers_in, wide_in, zone_in}
+use Rattle.zoneinfo64.specs.Inside.ZoneParts.{parts_of}
 use Rattle.zoneinfo64.specs.RuleFields.{rule_fields}
 use Rattle.zoneinfo64.specs.ZoneLists.{type_offsets, initial_of, integers_at, bytes_at, wide_at}
 use Rattle.zoneinfo64.specs.ZoneFields.{zone_rule, plain_zone_of}

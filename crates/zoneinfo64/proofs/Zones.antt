@@ -10,7 +10,8 @@ use Rattle.zoneinfo64.specs.declared.zone.Named.{Named}
 use Rattle.timeline.specs.Zone.{RawRule}
 use Rattle.zoneinfo64.specs.NamedZone.{NamedZone}
 use Rattle.zoneinfo64.specs.ZoneNames.{named_zone, named_zones}
-use Rattle.zoneinfo64.specs.Inside.Steps.{Reads, with_front, with_next}
+use Rattle.zoneinfo64.specs.Inside.Steps.{Reads}
+use Rattle.zoneinfo64.specs.Inside.ListSteps.{with_front, with_next}
 use Rattle.zoneinfo64.specs.Inside.ZoneList.{named_of, zones_of}
 use Rattle.zoneinfo64.proofs.FieldParts.{drop_one}
 use Rattle.zoneinfo64.proofs.Fronts.{front_grows}

@@ -4,7 +4,9 @@ ghost use Rattle.zoneinfo64.specs.NamedZone.{zone_at};
 ghost use Rattle.resb_tree.specs.Header.{tree_of};
 ghost use Rattle.zoneinfo64.specs.Bundle.{rises, is_resolved, all_resolved, array_in, table_in, are_arrays, checked_zones, zone_list, zones_of_words};
 ghost use Rattle.zoneinfo64.specs.ZoneNames.{named_zones, named_zone};
-ghost use Rattle.zoneinfo64.specs.Inside.Steps.{Reads, with_next, is_before, own_zone};
+ghost use Rattle.zoneinfo64.specs.Inside.Steps.{Reads};
+ghost use Rattle.zoneinfo64.specs.Inside.ListSteps.{with_next};
+ghost use Rattle.zoneinfo64.specs.Inside.ZoneSteps.{is_before, own_zone};
 ghost use Rattle.zoneinfo64.specs.Inside.RuleView.{rule_for};
 ghost use Rattle.zoneinfo64.specs.Inside.ZoneList.{zones_of, named_of, place_of_item, AreEntries};
 

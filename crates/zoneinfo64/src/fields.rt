@@ -2,8 +2,9 @@
 ghost use Rattle.std.specs.Prelude.{◌≡◌, ℕ, ◌+◌, ◌<◌, ◌≤◌, ◌++◌, ◌↔◌, All, map, IsTrue, IfOk, IfSome, length, vec_len, vec_capacity};
 ghost use Rattle.timeline.specs.Table.{sums_fit};
 ghost use Rattle.zoneinfo64.specs.Regions.{region_byte, region_byte_at, region_of};
-ghost use Rattle.zoneinfo64.specs.Inside.Steps.{Reads, wide, wide_second, seconds_of, plain_seconds, AreKnown};
-ghost use Rattle.zoneinfo64.specs.Inside.ZoneParts.{offsets_in, words_in, numbers_in, wide_in, zone_in};
+ghost use Rattle.zoneinfo64.specs.Inside.Steps.{Reads};
+ghost use Rattle.zoneinfo64.specs.Inside.ListSteps.{wide, wide_second, seconds_of, plain_seconds, AreKnown};
+ghost use Rattle.zoneinfo64.specs.Inside.FromParts.{offsets_in, words_in, numbers_in, wide_in, zone_in};
 ghost use Rattle.zoneinfo64.specs.RuleDates.{as_i32};
 ghost use Rattle.zoneinfo64.specs.RuleFields.{used_rule, rule_fields};
 ghost use Rattle.zoneinfo64.specs.ZoneLists.{pair_of, offset_pairs};
@@ -82,7 +83,7 @@ fn offset_pairs(alloc: Global, words: &[u32]) -> Result<Vec<(i32, i32)>, BinaryD
 }
 
 /// The pairs of offsets of a field, which has to be there.
-#[tactic(auto, unfolding(crate::specs::Inside::ZoneParts::offsets_in))]
+#[tactic(auto, unfolding(crate::specs::Inside::FromParts::offsets_in))]
 fn type_offsets(
     alloc: Global,
     part: &Option<ResourceRef<'_>>,
@@ -100,7 +101,7 @@ fn type_offsets(
 }
 
 /// A list of integers, empty where it is missing.
-#[tactic(auto, unfolding(crate::specs::Inside::ZoneParts::words_in))]
+#[tactic(auto, unfolding(crate::specs::Inside::FromParts::words_in))]
 fn integers<'a>(part: &Option<ResourceRef<'a>>) -> Result<&'a [u32], BinaryDeserializerError>
     ensures { Reads (λ r. r.now) result (words_in part.now) }
 {
@@ -114,7 +115,7 @@ fn integers<'a>(part: &Option<ResourceRef<'a>>) -> Result<&'a [u32], BinaryDeser
 }
 
 /// A copy of a list of bytes, empty where it is missing.
-#[tactic(auto, unfolding(crate::specs::Inside::ZoneParts::numbers_in))]
+#[tactic(auto, unfolding(crate::specs::Inside::FromParts::numbers_in))]
 fn bytes(
     alloc: Global,
     part: &Option<ResourceRef<'_>>,
@@ -132,7 +133,7 @@ fn bytes(
 }
 
 /// The words of a list of seconds, two each, empty where it is missing.
-#[tactic(auto, unfolding(crate::specs::Inside::ZoneParts::wide_in))]
+#[tactic(auto, unfolding(crate::specs::Inside::FromParts::wide_in))]
 fn wide<'a>(part: &Option<ResourceRef<'a>>) -> Result<&'a [u32], BinaryDeserializerError>
     ensures { Reads (λ r. wide r.now) result (wide_in part.now) }
 {
@@ -308,7 +309,7 @@ pub fn zone_data(
 }
 
 /// A zone from its fields. What is kept of them is copied, once each.
-#[tactic(auto, unfolding(crate::specs::Inside::ZoneParts::zone_in))]
+#[tactic(auto, unfolding(crate::specs::Inside::FromParts::zone_in))]
 fn zone_from(
     alloc: Global,
     rules: &Rules,

@@ -1,7 +1,8 @@
 //! The fields of a zone, found in one pass over the entries of its table.
 ghost use Rattle.std.specs.Prelude.{◌≡◌, Some, []};
 ghost use Rattle.std.specs.Str.{bytes_eq};
-ghost use Rattle.zoneinfo64.specs.Inside.ZoneParts.{key_of, field_named, first_or, with_field, parts_in, parts_of};
+ghost use Rattle.zoneinfo64.specs.Inside.FieldKeys.{key_of, field_named};
+ghost use Rattle.zoneinfo64.specs.Inside.ZoneParts.{first_or, with_field, parts_in, parts_of};
 
 use resb_tree::{KeyRef, ResourceRef};
 

@@ -2,7 +2,8 @@
 ghost use Rattle.std.specs.Prelude.{◌≡◌, IfOk, option_map};
 ghost use Rattle.std.specs.Option.{option_copied};
 ghost use Rattle.resb_tree.specs.Contents.{integers_in};
-ghost use Rattle.zoneinfo64.specs.Inside.Steps.{Reads, ReadsRules, rule_in};
+ghost use Rattle.zoneinfo64.specs.Inside.Steps.{Reads};
+ghost use Rattle.zoneinfo64.specs.Inside.RuleSteps.{ReadsRules, rule_in};
 ghost use Rattle.zoneinfo64.specs.RuleFields.{rules_of, raw_rule};
 ghost use Rattle.zoneinfo64.specs.Inside.RuleView.{rule_for};
 
@@ -30,7 +31,7 @@ fn units(alloc: Global, key: &KeyRef<'_>) -> Result<Vec<u16>, AllocError>
 }
 
 /// The rule of a list of eleven integers.
-#[tactic(auto, unfolding(crate::specs::Inside::Steps::rule_in))]
+#[tactic(auto, unfolding(crate::specs::Inside::RuleSteps::rule_in))]
 fn rule(value: &ResourceRef<'_>) -> Result<PlacedDates, BinaryDeserializerError>
     ensures { Reads (λ r. r) result (rule_in value.now) }
 {

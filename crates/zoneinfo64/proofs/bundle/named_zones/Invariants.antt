@@ -2,7 +2,7 @@ use Rattle.std.proofs.Common.{◌≡◌, ◌≤◌, length, vec_len}
 use Rattle.std.specs.Prelude.{vec_capacity}
 use Rattle.zoneinfo64.specs.Inside.RuleView.{rule_for}
 use Rattle.zoneinfo64.specs.ZoneNames.{named_zones}
-use Rattle.zoneinfo64.specs.Inside.Steps.{with_front}
+use Rattle.zoneinfo64.specs.Inside.ListSteps.{with_front}
 use Rattle.zoneinfo64.specs.Inside.ZoneList.{zones_of}
 use Rattle.zoneinfo64.proofs.Zones.{left}
 use Rattle.zoneinfo64.proofs.bundle.named_zones.Given as goal

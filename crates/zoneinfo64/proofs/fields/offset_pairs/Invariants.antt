@@ -1,6 +1,6 @@
 use Rattle.std.proofs.Common.{◌≡◌, IsTrue, length}
 use Rattle.timeline.specs.Table.{sums_fit}
-use Rattle.zoneinfo64.specs.Inside.Steps.{with_front}
+use Rattle.zoneinfo64.specs.Inside.ListSteps.{with_front}
 use Rattle.zoneinfo64.specs.ZoneLists.{offset_pairs}
 use Rattle.zoneinfo64.proofs.fields.offset_pairs.Given as goal
 

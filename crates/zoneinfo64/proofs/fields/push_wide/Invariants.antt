@@ -1,6 +1,6 @@
 use Rattle.std.proofs.Common.{◌≡◌, ◌≤◌, ◌+◌, ◌++◌, length, vec_len}
 use Rattle.std.specs.Prelude.{vec_capacity}
-use Rattle.zoneinfo64.specs.Inside.Steps.{wide}
+use Rattle.zoneinfo64.specs.Inside.ListSteps.{wide}
 use Rattle.zoneinfo64.proofs.fields.push_wide.Given as goal
 
 abbrev pub invariant-loop-rest : goal.invariant-loop-rest

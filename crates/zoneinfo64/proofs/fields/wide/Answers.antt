@@ -1,5 +1,5 @@
 use Rattle.std.proofs.Common.{arith}
-use Rattle.zoneinfo64.specs.Inside.ZoneParts.{wide_in}
+use Rattle.zoneinfo64.specs.Inside.FromParts.{wide_in}
 use Rattle.zoneinfo64.proofs.Wides.{wide_even, wide_odd}
 use Rattle.zoneinfo64.proofs.fields.wide.Goals as goal
 

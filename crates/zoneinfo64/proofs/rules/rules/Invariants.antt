@@ -1,5 +1,5 @@
 use Rattle.std.proofs.Common.{◌≤◌, length, drop}
-use Rattle.zoneinfo64.specs.Inside.Steps.{HasRules}
+use Rattle.zoneinfo64.specs.Inside.RuleSteps.{HasRules}
 use Rattle.zoneinfo64.specs.RuleFields.{rules_of}
 use Rattle.zoneinfo64.proofs.rules.rules.Given as goal
 
