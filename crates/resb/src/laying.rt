@@ -37,12 +37,10 @@ pub fn lay_text(units: &[u16], base: usize, out: &mut Vec<u32>) -> Result<u32, R
         ++ (laid (r.Text units.now) no_places (base + length out.old.items)).0) }
     ensures item { IfOk result
         (λ v. v ≡ (laid (r.Text units.now) no_places (base + length out.old.items)).1) }
-    ensures bound { OnOk result
-        (base + length out.old.items
-        + length (laid (r.Text units.now) no_places (base + length out.old.items)).0 ≤ most_words) }
-    ensures err { IfErr result
-        (Refuses (base + length out.old.items
-        + length (laid (r.Text units.now) no_places (base + length out.old.items)).0 ≤ most_words)) }
+    ensures bound { let at = base + length out.old.items in
+        OnOk result (at + length (laid (r.Text units.now) no_places at).0 ≤ most_words) }
+    ensures err { let at = base + length out.old.items in IfErr result
+        (Refuses (at + length (laid (r.Text units.now) no_places at).0 ≤ most_words)) }
 {
     let count = units.len();
     if count == 0 {
@@ -65,12 +63,10 @@ pub fn lay_bytes(bytes: &[u8], base: usize, out: &mut Vec<u32>) -> Result<u32, R
         ++ (laid (r.Bytes bytes.now) no_places (base + length out.old.items)).0) }
     ensures item { IfOk result
         (λ v. v ≡ (laid (r.Bytes bytes.now) no_places (base + length out.old.items)).1) }
-    ensures bound { OnOk result
-        (base + length out.old.items
-        + length (laid (r.Bytes bytes.now) no_places (base + length out.old.items)).0 ≤ most_words) }
-    ensures err { IfErr result
-        (Refuses (base + length out.old.items
-        + length (laid (r.Bytes bytes.now) no_places (base + length out.old.items)).0 ≤ most_words)) }
+    ensures bound { let at = base + length out.old.items in
+        OnOk result (at + length (laid (r.Bytes bytes.now) no_places at).0 ≤ most_words) }
+    ensures err { let at = base + length out.old.items in IfErr result
+        (Refuses (at + length (laid (r.Bytes bytes.now) no_places at).0 ≤ most_words)) }
 {
     let count = bytes.len();
     if count == 0 {

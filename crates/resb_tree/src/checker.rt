@@ -55,7 +55,8 @@ impl<'a> Model for Checker<'a> {
 
     ghost view = { λ r. told r.body };
 
-    ghost invariant = { λ r. AreMet (told r.body) r.slots.items × AreApart (told r.body) r.tables.items };
+    ghost invariant = { λ r.
+        AreMet (told r.body) r.slots.items × AreApart (told r.body) r.tables.items };
 }
 
 /// As many empty slots as there are.

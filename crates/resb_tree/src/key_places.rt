@@ -68,7 +68,8 @@ fn same_key(body: BodyWords<'_>, one: usize, other: usize) -> bool
 #[tactic(auto, using(crate::proofs::KeyPlaces::key_bytes))]
 fn key_len(body: BodyWords<'_>, place: usize) -> usize
     requires { IsKey (told body) place }
-    ensures value { let b = told body.entry in run (byte_in b.words) place result ≡ key_there b place }
+    ensures value { let b = told body.entry in
+        run (byte_in b.words) place result ≡ key_there b place }
     ensures bound { place + result ≤ 4 * body.entry.keys_end }
 {
     let mut at = place;

@@ -41,7 +41,8 @@ fn zero_word(body: &BodyWords<'_>, from: usize) -> Option<usize>
 #[tactic(auto, using(crate::proofs::Scans::zero_next, crate::proofs::Scans::zero_never))]
 fn zero_unit(body: &BodyWords<'_>, v: usize) -> Option<usize>
     requires { v < area_len (told body.now) }
-    ensures value { result ≡ zero_from (area_unit (told body.now)) v (area_len (told body.now) - v) }
+    ensures value { let b = told body.now in
+        result ≡ zero_from (area_unit b) v (area_len b - v) }
     ensures low { IfSome result (λ stop. v ≤ stop) }
     ensures high { IfSome result (λ stop. stop < area_len (told body.now)) }
 {

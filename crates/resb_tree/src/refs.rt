@@ -161,7 +161,7 @@ pub fn entries_from<'a>(
     v: usize,
 ) -> EntriesRef<'a>
     requires low { v < entries_end form (told body.now) }
-    requires are { AreEntries (told body.now) form levels v (entries_count form (told body.now) v) }
+    requires are { let b = told body.now in AreEntries b form levels v (entries_count form b v) }
     ensures { let count = entries_count form (told body.now) v in
         result ≡ entries_there (told body.now) form levels v count }
 {

@@ -49,8 +49,8 @@ fn array_of(
 ) -> Result<Resource, AllocError>
     requires low { v < items_end form (told body.now) }
     requires are { let b = told body.now in AreItems b form levels (v + 1) (items_count form b v) }
-    ensures { let b = told body.now in
-        IfOk result (λ tree. tree ≡ r.Array (items_there b form levels (v + 1) (items_count form b v))) }
+    ensures { let b = told body.now in let count = items_count form b v in
+        IfOk result (λ tree. tree ≡ r.Array (items_there b form levels (v + 1) count)) }
 {
     let count = items_count(body, form, v);
     let mut items = Items::from_vec(Vec::with_capacity(alloc, count)?);
@@ -74,8 +74,8 @@ fn table_of(
 ) -> Result<Resource, AllocError>
     requires low { v < entries_end form (told body.now) }
     requires are { let b = told body.now in AreEntries b form levels v (entries_count form b v) }
-    ensures { let b = told body.now in
-        IfOk result (λ tree. tree ≡ r.Table (entries_there b form levels v (entries_count form b v))) }
+    ensures { let b = told body.now in let count = entries_count form b v in
+        IfOk result (λ tree. tree ≡ r.Table (entries_there b form levels v count)) }
 {
     let count = entries_count(body, form, v);
     let mut entries = Items::from_vec(Vec::with_capacity(alloc, count)?);
