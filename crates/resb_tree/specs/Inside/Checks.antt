@@ -39,6 +39,7 @@ pub record IsApart (b : Body) (met : Apart) : Type 0 where
   pub lie : EntriesLie met.form b met.v met.count
   pub apart : distinct (keys_there b (run (entry_in met.form b met.v met.count) 0 met.count)) ≡ true
 
+-- a slot that holds a table holds one that was met
 abbrev pub IsTable : Body → Option Apart → Type 0
 IsTable b None = Unit {0}
 IsTable b (Some met) = IsApart b met
