@@ -10,7 +10,7 @@ use Rattle.resb_tree.specs.declared.forms.ArrayForm.TheVariants as array
 use Rattle.resb_tree.specs.declared.forms.TableForm.{TableForm}
 use Rattle.resb_tree.specs.declared.forms.TableForm.TheVariants as table
 use Rattle.resb_tree.specs.Words.{run, unit_in, byte_in}
-use Rattle.resb_tree.specs.Weight.{weight, weights, entry_weights}
+use Rattle.resb_tree.specs.Weight.{weight, weights}
 use Rattle.resb_tree.specs.Keys.{distinct}
 use Rattle.resb_tree.specs.Bodies.{◌>>=◌, when, Body, area_unit, counted}
 use Rattle.resb_tree.specs.Arrays.{all_of, array_at, short_array_at}
@@ -19,6 +19,7 @@ use Rattle.resb_tree.specs.Tables.{key_at, entries_of, table_of, table16_at, tab
 use Rattle.resb_tree.specs.Tree.{by_type, tree_at, denoted}
 use Rattle.resb_tree.specs.Forms.{item_in, no_items, array_count, entry_in, no_entries, table_count}
 use Rattle.resb_tree.specs.Reading.{spent, short_span}
+use Rattle.resb_tree.specs.Inside.Weights.{entry_weights}
 use Rattle.resb_tree.specs.Inside.Places.{the_tree, root_there}
 use Rattle.resb_tree.specs.Inside.Checks.{keys_there, counted_left, short_text_left, items_left, array_left, key_left, entries_left, table_left, nested_left, typed_left, left_behind}
 use Rattle.resb_tree.proofs.Weights.{weight-Integer, weight-Integers, weight-Array, weight-Text, weight-Bytes, weight-Table}

@@ -5,7 +5,8 @@ use Rattle.resb_tree.specs.declared.resource.Resource.{Resource, fold-roll-Resou
 use Rattle.resb_tree.specs.declared.resource.Resource.TheOpen.{Resource-F}
 use Rattle.resb_tree.specs.declared.resource.Resource.TheVariants as r
 use Rattle.resb_tree.specs.declared.resource.Resource.TheVariants.{rolls-Integer, rolls-Text, rolls-Bytes, rolls-Integers, rolls-Array, rolls-Table}
-use Rattle.resb_tree.specs.Weight.{layer_weight, weight, weights, entry_weights, sum_of, entries_sum}
+use Rattle.resb_tree.specs.Weight.{layer_weight, weight, weights, sum_of, entries_sum}
+use Rattle.resb_tree.specs.Inside.Weights.{entry_weights}
 
 sums : (xs : List Resource) → sum_of (map weight xs) ≡ weights xs
 sums [] = refl

@@ -3,3 +3,4 @@ pub mod Checks
 pub mod Places
 pub mod Parts
 pub mod Bytes
+pub mod Weights

@@ -1,5 +1,5 @@
 -- How much of a tree there is (docs/FORMATS.md, "Weight").
-use Rattle.std.specs.Prelude.{ℕ, ◌+◌, ◌-◌, List, [], ◌∷◌, length, Option, Some, None, nat_le, if◌then◌else◌}
+use Rattle.std.specs.Prelude.{ℕ, ◌+◌, List, [], ◌∷◌, length}
 use Rattle.resb_tree.specs.declared.resource.Resource.{Resource, fold-Resource}
 use Rattle.resb_tree.specs.declared.resource.Resource.TheOpen.{Resource-F}
 
@@ -30,12 +30,3 @@ weight = fold-Resource ℕ layer_weight
 abbrev pub weights : List Resource → ℕ
 weights [] = 0
 weights (x ∷ xs) = weight x + weights xs
-
--- the keys' bytes and the values' weights, as a sum
-abbrev pub entry_weights : List (List ℕ × Resource) → ℕ
-entry_weights [] = 0
-entry_weights (e ∷ es) = length e.0 + weight e.1 + entry_weights es
-
--- what a weight leaves of a limit
-abbrev pub spent_by : ℕ → ℕ → Option ℕ
-spent_by limit n = if nat_le n limit then Some (limit - n) else None
