@@ -13,7 +13,7 @@ use Rattle.resb_tree.specs.Tables.{key_at, entries_of, table16_at}
 use Rattle.resb_tree.specs.Tree.{by_type, tree_at}
 use Rattle.resb.specs.Packing.{pack_units}
 use Rattle.resb.specs.LaidTrees.{item, Laid, text_laid, bytes_laid, integers_laid}
-use Rattle.resb.specs.Laws.{all_below}
+use Rattle.std.specs.Simd.Lanes.{all_below}
 use Rattle.resb.proofs.PackedWords.{Stand, StandIn, Below, below_append, stand_front, stand_run, bytes_stand, units_stand, length-pack_units, length-pack_bytes}
 use Rattle.resb.specs.KeyPlan.{values_in}
 use Rattle.resb.proofs.PoolReads.{Each, Placed}

@@ -11,7 +11,8 @@ use Rattle.resb_tree.specs.Weight.{layer_weight, weight, weights, sum_of, entrie
 use Rattle.resb.specs.KeyPlan.{values_in, told_values, no_places}
 use Rattle.resb.specs.TreeKeys.{keys_met, entry_keys, item_keys}
 use Rattle.resb.specs.LaidTrees.{Laid, laid, lay_all, text_laid, bytes_laid, integers_laid}
-use Rattle.resb.specs.Laws.{all_below, all_true, layer_typed, has_typed_parts}
+use Rattle.std.specs.Simd.Lanes.{all_below}
+use Rattle.resb.specs.Laws.{all_true, layer_typed, has_typed_parts}
 use Rattle.resb.specs.Packing.{pack_units}
 use Rattle.resb.specs.WrittenFiles.{layer_most, most_entries, most_of}
 use Rattle.resb.specs.BadKeys.{layer_bad, has_bad_key, any_bad, all_keys}

@@ -1,7 +1,7 @@
 -- Units and bytes have the sizes of their types.
 use Rattle.std.proofs.Common.{◌≡◌, ℕ, suc, true, List, [], ◌∷◌, get_or, Fits, w8, refl}
 use Rattle.std.proofs.lemmas.Bool.{and_from, lt-ltb}
-use Rattle.resb.specs.Laws.{all_below}
+use Rattle.std.specs.Simd.Lanes.{all_below}
 use Rattle.std.proofs.Math.Facts.{Fits-lt-pow}
 use mir.Syntax.{w16}
 

@@ -1,16 +1,12 @@
 -- What the definitions of words and trees keep (docs/FORMATS.md, "The writer").
-use Rattle.std.specs.Prelude.{◌≡◌, ℕ, Bool, true, false, Some, ◌&&◌, nat_lt, List, [], ◌∷◌, map}
+use Rattle.std.specs.Prelude.{◌≡◌, ℕ, Bool, true, false, Some, ◌&&◌, List, [], ◌∷◌, map}
+use Rattle.std.specs.Simd.Lanes.{all_below}
 use Rattle.resb_tree.specs.declared.resource.Resource.{Resource, fold-Resource}
 use Rattle.resb_tree.specs.declared.resource.Resource.TheOpen.{Resource-F}
 use Rattle.resb_tree.specs.Header.{tree_of}
 use Rattle.resb.specs.WrittenFiles.{written}
 use Rattle.resb.specs.BadKeys.{has_bad_key}
 use Rattle.resb.specs.Writing.{is_too_large}
-
--- each number is below a bound
-abbrev pub all_below : ℕ → List ℕ → Bool
-all_below n [] = true
-all_below n (x ∷ xs) = nat_lt x n && all_below n xs
 
 -- each of these holds
 abbrev pub all_true : List Bool → Bool

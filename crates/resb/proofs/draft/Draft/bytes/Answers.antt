@@ -1,6 +1,6 @@
 use Rattle.std.proofs.Common.{rules, ◌≡◌, true, false, length, arith}
 use Rattle.resb_tree.specs.declared.resource.Resource.TheVariants as r
-use Rattle.resb.specs.Laws.{all_below}
+use Rattle.std.specs.Simd.Lanes.{all_below}
 use Rattle.resb.proofs.LaidWords.{err_on, leaf_laid}
 use Rattle.resb.proofs.Rooms.{refused_heavy, leaf_long}
 use Rattle.resb.proofs.Rows.{leaf_put}
