@@ -8,9 +8,10 @@ use Rattle.resb_tree.specs.declared.checker.Met.{Met}
 use Rattle.resb_tree.specs.Words.{run, byte_in}
 use Rattle.resb_tree.specs.Bodies.{◌>>=◌, Body}
 use Rattle.resb_tree.specs.Tables.{key_at}
-use Rattle.resb_tree.specs.Reading.{spent, key_stop}
-use Rattle.resb_tree.specs.Inside.Places.{IsKey}
-use Rattle.resb_tree.specs.Inside.Checks.{key_length, IsMet, AreMet, key_left, entries_left}
+use Rattle.resb_tree.specs.Inside.Left.{spent, key_left, entries_left}
+use Rattle.resb_tree.specs.Inside.Spans.{key_stop}
+use Rattle.resb_tree.specs.Inside.KeyPlaces.{IsKey, key_length}
+use Rattle.resb_tree.specs.Inside.Slots.{IsMet, AreMet}
 use Rattle.resb_tree.proofs.Runs.{length_run}
 use Rattle.resb_tree.proofs.Spans.{key_span}
 

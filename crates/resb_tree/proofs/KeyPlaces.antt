@@ -8,8 +8,7 @@ use Rattle.resb_tree.specs.Words.{run, byte_in}
 use Rattle.resb_tree.specs.Keys.{distinct, keys_in}
 use Rattle.resb_tree.specs.Bodies.{◌>>=◌, Body}
 use Rattle.resb_tree.specs.Tables.{key_from, key_at}
-use Rattle.resb_tree.specs.Inside.Places.{key_there, IsKey}
-use Rattle.resb_tree.specs.Inside.Checks.{keys_there}
+use Rattle.resb_tree.specs.Inside.KeyPlaces.{key_there, IsKey, keys_there}
 use Rattle.resb_tree.proofs.Held.{held_first, held_next}
 use Rattle.resb_tree.proofs.Runs.{run_push, run_grow}
 

@@ -20,8 +20,9 @@ use Rattle.resb_tree.specs.Arrays.{all_of, array_at, short_array_at}
 use Rattle.resb_tree.specs.Tables.{entries_of, key_at, short_table_at}
 use Rattle.resb_tree.specs.Leaves.{integers_at, text_at, bytes_at, short_text_at}
 use Rattle.resb_tree.specs.Tree.{by_type, tree_at}
-use Rattle.resb_tree.specs.Forms.{item_in, no_items, array_count, entry_in, no_entries, table_count}
-use Rattle.resb_tree.specs.Reading.{short_span}
+use Rattle.resb_tree.specs.Forms.{item_in, entry_in}
+use Rattle.resb_tree.specs.Inside.Counts.{no_items, array_count, no_entries, table_count}
+use Rattle.resb_tree.specs.Inside.Spans.{short_span}
 use Rattle.resb_tree.specs.Inside.Places.{tree_there, IsTree}
 use Rattle.resb_tree.specs.Inside.Parts.{count_there, array_form, table_form}
 use Rattle.resb_tree.proofs.Runs.{run_shift}

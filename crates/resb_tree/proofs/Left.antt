@@ -17,11 +17,14 @@ use Rattle.resb_tree.specs.Arrays.{all_of, array_at, short_array_at}
 use Rattle.resb_tree.specs.Leaves.{integers_at, text_at, bytes_at, short_text_at}
 use Rattle.resb_tree.specs.Tables.{key_at, entries_of, table_of, table16_at, table32_at, short_table_at}
 use Rattle.resb_tree.specs.Tree.{by_type, tree_at, denoted}
-use Rattle.resb_tree.specs.Forms.{item_in, no_items, array_count, entry_in, no_entries, table_count}
-use Rattle.resb_tree.specs.Reading.{spent, short_span}
+use Rattle.resb_tree.specs.Forms.{item_in, entry_in}
+use Rattle.resb_tree.specs.Inside.Counts.{no_items, array_count, no_entries, table_count}
+use Rattle.resb_tree.specs.Inside.Left.{spent, counted_left, short_text_left, items_left, array_left, key_left, entries_left, table_left}
+use Rattle.resb_tree.specs.Inside.Spans.{short_span}
 use Rattle.resb_tree.specs.Inside.Weights.{entry_weights}
 use Rattle.resb_tree.specs.Inside.Places.{the_tree, root_there}
-use Rattle.resb_tree.specs.Inside.Checks.{keys_there, counted_left, short_text_left, items_left, array_left, key_left, entries_left, table_left, nested_left, typed_left, left_behind}
+use Rattle.resb_tree.specs.Inside.KeyPlaces.{keys_there}
+use Rattle.resb_tree.specs.Inside.Walk.{nested_left, typed_left, left_behind}
 use Rattle.resb_tree.proofs.Weights.{weight-Integer, weight-Integers, weight-Array, weight-Text, weight-Bytes, weight-Table}
 use Rattle.resb_tree.proofs.Runs.{length_run}
 use Rattle.resb_tree.proofs.Spans.{short_text_span}

@@ -17,8 +17,10 @@ use Rattle.resb_tree.specs.Bodies.{◌>>=◌, Body, area_len, area_unit}
 use Rattle.resb_tree.specs.Arrays.{all_of, array_at, short_array_at}
 use Rattle.resb_tree.specs.Tables.{entries_of, key_at, short_table_at}
 use Rattle.resb_tree.specs.Tree.{by_type, tree_at}
-use Rattle.resb_tree.specs.Forms.{item_in, items_end, no_items, array_count, entry_in, no_entries, EntriesLie, table_count}
-use Rattle.resb_tree.specs.Inside.Places.{the_tree, the_list, tree_there, IsTree, key_there, items_there, AreItems, entries_there, AreEntries}
+use Rattle.resb_tree.specs.Forms.{item_in, items_end, entry_in, EntriesLie}
+use Rattle.resb_tree.specs.Inside.Counts.{no_items, array_count, no_entries, table_count}
+use Rattle.resb_tree.specs.Inside.Places.{the_tree, tree_there, IsTree, items_there, AreItems, entries_there, AreEntries}
+use Rattle.resb_tree.specs.Inside.KeyPlaces.{the_list, key_there}
 use Rattle.resb_tree.specs.Inside.Parts.{items_count, entries_end, entries_count, array_form, table_form}
 use Rattle.resb_tree.proofs.Left.{array_by, table_by, narrow_table, wide_table}
 use Rattle.resb_tree.proofs.Checks.{bind_some}

@@ -1,7 +1,7 @@
 -- Looking for a zero value, one place after the other.
 use Rattle.std.proofs.Common.{◌≡◌, ℕ, suc, ◌+◌, ◌-◌, ◌*◌, ◌<◌, ◌≤◌, cond, eqb, ltb, Some, None, refl, arith}
 use Rattle.std.proofs.lemmas.Bool.Decides.{nat_tests}
-use Rattle.resb_tree.specs.Reading.{zero_from, key_stop}
+use Rattle.resb_tree.specs.Inside.Spans.{zero_from, key_stop}
 
 pub zero_next : (unit : ℕ → ℕ) (i end : ℕ) → i < end → zero_from unit i (end - i) ≡ cond (eqb (unit i) 0) (Some i) (zero_from unit (i + 1) (end - (i + 1)))
 unfolding zero_from

@@ -6,7 +6,7 @@ use Rattle.resb_tree.specs.Words.{run, byte_in}
 use Rattle.resb_tree.specs.Bodies.{◌>>=◌, Body, area_len, area_unit}
 use Rattle.resb_tree.specs.Leaves.{area_text, units_to_zero, short_text_at}
 use Rattle.resb_tree.specs.Tables.{key_from, key_at}
-use Rattle.resb_tree.specs.Reading.{zero_from, span_inside, short_span, key_stop}
+use Rattle.resb_tree.specs.Inside.Spans.{zero_from, span_inside, short_span, key_stop}
 
 -- what stands from a place to where a scan stops
 abbrev Reaches : (ℕ → ℕ) → ℕ → Option ℕ → Option (List ℕ) → Type 0

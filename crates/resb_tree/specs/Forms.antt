@@ -1,7 +1,7 @@
 -- Where the items of an array, and the key places and items of a table, stand (docs/FORMATS.md, "Items").
-use Rattle.std.specs.Prelude.{ℕ, ◌+◌, ◌*◌, ◌/◌, Bool, false, ◌&&◌, slice_index, Option, Some, None, if◌then◌else◌, ◌==◌, ◌≤◌, nat_le, nat_lt}
+use Rattle.std.specs.Prelude.{ℕ, ◌+◌, ◌*◌, ◌/◌, slice_index, ◌≤◌}
 use Rattle.resb_tree.specs.Words.{unit_in}
-use Rattle.resb_tree.specs.Bodies.{Body, body, area_len, area_unit, text_item, counted, area_counted}
+use Rattle.resb_tree.specs.Bodies.{Body, body, area_len, area_unit, text_item}
 use Rattle.resb_tree.specs.declared.body.BodyWords.{BodyWords}
 use Rattle.resb_tree.specs.declared.forms.ArrayForm.{ArrayForm}
 use Rattle.resb_tree.specs.declared.forms.ArrayForm.TheVariants as array
@@ -24,16 +24,6 @@ abbrev pub items_end : ArrayForm → Body → ℕ
 items_end array.Long b = b.end
 items_end array.Short b = area_len b
 
--- a long array has no words where its place is 0
-abbrev pub no_items : ArrayForm → ℕ → Bool
-no_items array.Long v = v == 0
-no_items array.Short v = false
-
--- how many items the array at a place has, where they lie where they may
-abbrev pub array_count : ArrayForm → Body → ℕ → Option ℕ
-array_count array.Long b v = counted b v 1
-array_count array.Short b v = area_counted b v 1
-
 -- ---- tables
 
 -- the key place and the item of an entry
@@ -42,24 +32,8 @@ entry_in table.Narrow b v count k = (unit_in b.words (2 * v + 1 + k), slice_inde
 entry_in table.Wide b v count k = (slice_index b.words (v + 1 + k), slice_index b.words (v + 1 + count + k))
 entry_in table.Brief b v count k = (area_unit b (v + 1 + k), text_item b (v + 1 + count + k))
 
--- a table whose places are no units of the area has no words where its place is 0
-abbrev pub no_entries : TableForm → ℕ → Bool
-no_entries table.Narrow v = v == 0
-no_entries table.Wide v = v == 0
-no_entries table.Brief v = false
-
 -- so many entries lie where they may
 abbrev pub EntriesLie : TableForm → Body → ℕ → ℕ → Type 0
 EntriesLie table.Narrow b v count = v + (count + 2) / 2 + count ≤ b.end
 EntriesLie table.Wide b v count = v + 1 + 2 * count ≤ b.end
 EntriesLie table.Brief b v count = v + 1 + 2 * count ≤ area_len b
-
--- how many entries the table at a place has, where they lie where they may
-abbrev pub table_count : TableForm → Body → ℕ → Option ℕ
-table_count table.Narrow b v =
-    let count = unit_in b.words (2 * v) in
-    if nat_lt v b.end && nat_le (v + (count + 2) / 2 + count) b.end then Some count else None
-table_count table.Wide b v =
-    let count = slice_index b.words v in
-    if nat_lt v b.end && nat_le (v + 1 + 2 * count) b.end then Some count else None
-table_count table.Brief b v = area_counted b v 2

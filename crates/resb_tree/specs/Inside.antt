@@ -1,6 +1,11 @@
 -- What serves private contracts alone: no reader needs it to know what the crate does.
-pub mod Checks
-pub mod Places
-pub mod Parts
 pub mod Bytes
+pub mod Counts
+pub mod KeyPlaces
+pub mod Left
+pub mod Parts
+pub mod Places
+pub mod Slots
+pub mod Spans
+pub mod Walk
 pub mod Weights

@@ -2,8 +2,9 @@ ghost use Rattle.std.specs.Prelude.{◌≡◌, ◌+◌, ◌-◌, ◌*◌, ◌<�
 ghost use Rattle.resb_tree.specs.Words.{run};
 ghost use Rattle.resb_tree.specs.Keys.{distinct};
 ghost use Rattle.resb_tree.specs.Forms.{told, entry_in, EntriesLie};
-ghost use Rattle.resb_tree.specs.Inside.Places.{HaveKeys};
-ghost use Rattle.resb_tree.specs.Inside.Checks.{AreMet, AreApart, keys_there, key_length, key_left};
+ghost use Rattle.resb_tree.specs.Inside.KeyPlaces.{HaveKeys, keys_there, key_length};
+ghost use Rattle.resb_tree.specs.Inside.Slots.{AreMet, AreApart};
+ghost use Rattle.resb_tree.specs.Inside.Left.{key_left};
 ghost use Rattle.resb_tree.specs.Reading.{Gives};
 
 use crate::body::BodyWords;
@@ -51,7 +52,7 @@ impl<'a> Model for Checker<'a> {
     ghost Value = { Body };
 
     ghost use Rattle.resb_tree.specs.Forms.{told};
-    ghost use Rattle.resb_tree.specs.Inside.Checks.{AreMet, AreApart};
+    ghost use Rattle.resb_tree.specs.Inside.Slots.{AreMet, AreApart};
 
     ghost view = { λ r. told r.body };
 
@@ -142,7 +143,7 @@ impl<'a> Checker<'a> {
     }
 
     /// What the bytes of the key at a place leave of the limit.
-    #[tactic(auto, using(crate::proofs::Checks::stop_length), unfolding(crate::specs::Inside::Checks::key_left))]
+    #[tactic(auto, using(crate::proofs::Checks::stop_length), unfolding(crate::specs::Inside::Left::key_left))]
     pub fn key(&mut self, place: usize, limit: usize) -> Result<usize, ResbError>
         ensures same { self.new ≡ self.old }
         ensures value { Gives (λ x. x) result (key_left self.old place limit) }

@@ -4,7 +4,8 @@ ghost use Rattle.resb_tree.specs.Words.{run};
 ghost use Rattle.resb_tree.specs.Forms.{told, item_in, items_end, entry_in, EntriesLie};
 ghost use Rattle.resb_tree.specs.Reading.{Gives};
 ghost use Rattle.resb_tree.specs.Tree.{denoted};
-ghost use Rattle.resb_tree.specs.Inside.Checks.{counted_left, short_text_left, items_left, array_left, key_left, entries_left, table_left, nested_left, left_behind};
+ghost use Rattle.resb_tree.specs.Inside.Left.{counted_left, short_text_left, items_left, array_left, key_left, entries_left, table_left};
+ghost use Rattle.resb_tree.specs.Inside.Walk.{nested_left, left_behind};
 ghost use Rattle.resb_tree.specs.Inside.Places.{root_there, IsRoot};
 
 use crate::body::BodyWords;
@@ -22,7 +23,7 @@ pub const STEP: u32 = 268_435_456;
 pub const DEPTH: u8 = 8;
 
 /// What the values behind the count at `v`, of which `per` fit a word, leave of the limit.
-#[tactic(auto, unfolding(crate::specs::Inside::Checks::counted_left))]
+#[tactic(auto, unfolding(crate::specs::Inside::Left::counted_left))]
 fn counted_left(
     body: &BodyWords<'_>,
     v: usize,
@@ -44,7 +45,7 @@ fn counted_left(
 }
 
 /// What the text at unit `v` of the 16-bit area leaves of the limit.
-#[tactic(auto, unfolding(crate::specs::Inside::Checks::short_text_left))]
+#[tactic(auto, unfolding(crate::specs::Inside::Left::short_text_left))]
 fn short_text_left(body: &BodyWords<'_>, v: usize, limit: usize) -> Result<usize, ResbError>
     ensures { Gives (λ x. x) result (short_text_left (told body.now) v limit) }
 {
@@ -81,7 +82,7 @@ fn items_left(
 
 /// What the array at `v` leaves of the limit.
 #[cycle(walk)]
-#[tactic(auto, unfolding(crate::specs::Inside::Checks::array_left))]
+#[tactic(auto, unfolding(crate::specs::Inside::Left::array_left))]
 fn array_left(
     alloc: Global,
     checker: &mut Checker<'_>,
@@ -132,7 +133,7 @@ fn entries_left(
 
 /// What the table at `v` leaves of the limit.
 #[cycle(walk)]
-#[tactic(auto, using(crate::proofs::Checks::have_keys), unfolding(crate::specs::Inside::Checks::table_left))]
+#[tactic(auto, using(crate::proofs::Checks::have_keys), unfolding(crate::specs::Inside::Left::table_left))]
 fn table_left(
     alloc: Global,
     checker: &mut Checker<'_>,
@@ -159,7 +160,7 @@ fn table_left(
 
 /// What a table or an array of a type and a value leaves of the limit.
 #[cycle(walk)]
-#[tactic(auto, unfolding(crate::specs::Inside::Checks::nested_left))]
+#[tactic(auto, unfolding(crate::specs::Inside::Walk::nested_left))]
 fn nested_left(
     alloc: Global,
     checker: &mut Checker<'_>,
@@ -184,7 +185,7 @@ fn nested_left(
 
 /// What an item leaves of the limit.
 #[cycle(walk)]
-#[tactic(auto, unfolding(crate::specs::Inside::Checks::left_behind, crate::specs::Inside::Checks::typed_left))]
+#[tactic(auto, unfolding(crate::specs::Inside::Walk::left_behind, crate::specs::Inside::Walk::typed_left))]
 fn item_left(
     alloc: Global,
     checker: &mut Checker<'_>,

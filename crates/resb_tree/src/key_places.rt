@@ -4,8 +4,7 @@ ghost use Rattle.std.specs.Str.{bytes_eq};
 ghost use Rattle.resb_tree.specs.Words.{run, byte_in};
 ghost use Rattle.resb_tree.specs.Keys.{distinct, stands_in};
 ghost use Rattle.resb_tree.specs.Forms.{told, entry_in, EntriesLie};
-ghost use Rattle.resb_tree.specs.Inside.Places.{key_there, IsKey, HaveKeys};
-ghost use Rattle.resb_tree.specs.Inside.Checks.{keys_there};
+ghost use Rattle.resb_tree.specs.Inside.KeyPlaces.{key_there, IsKey, HaveKeys, keys_there};
 
 use crate::body::BodyWords;
 use crate::forms::TableForm;

@@ -2,7 +2,8 @@ ghost use Rattle.std.specs.Prelude.{◌≡◌, ℕ, ◌+◌, ◌-◌, ◌*◌, �
 ghost use Rattle.resb_tree.specs.Words.{byte_in};
 ghost use Rattle.resb_tree.specs.Keys.{stands_in, distinct, keys_in};
 ghost use Rattle.resb_tree.specs.Forms.{told};
-ghost use Rattle.resb_tree.specs.Reading.{Gives, key_stop};
+ghost use Rattle.resb_tree.specs.Reading.{Gives};
+ghost use Rattle.resb_tree.specs.Inside.Spans.{key_stop};
 
 use crate::body::BodyWords;
 use crate::error::ResbError;
@@ -16,7 +17,7 @@ use std::collections::BTreeSet;
 const FEW: usize = 16;
 
 /// The place of the zero byte that ends the key at a place.
-#[tactic(auto, using(crate::proofs::Scans::stops), unfolding(crate::specs::Reading::key_stop))]
+#[tactic(auto, using(crate::proofs::Scans::stops), unfolding(crate::specs::Inside::Spans::key_stop))]
 pub fn key_stop(body: BodyWords<'_>, place: usize) -> Result<usize, ResbError>
     ensures value { Gives (λ x. x) result
         (key_stop (byte_in body.entry.words.now) place (4 * body.entry.keys_end - place)) }

@@ -1,7 +1,9 @@
 ghost use Rattle.std.specs.Prelude.{◌≡◌, ℕ, ◌+◌, ◌-◌, ◌*◌, ◌<◌, ◌≤◌, IfSome};
 ghost use Rattle.resb_tree.specs.Bodies.{area_len, area_unit};
 ghost use Rattle.resb_tree.specs.Forms.{told};
-ghost use Rattle.resb_tree.specs.Reading.{Gives, spent, zero_from, span_inside, told_span, short_span};
+ghost use Rattle.resb_tree.specs.Reading.{Gives};
+ghost use Rattle.resb_tree.specs.Inside.Left.{spent};
+ghost use Rattle.resb_tree.specs.Inside.Spans.{zero_from, span_inside, told_span, short_span};
 
 use crate::body::BodyWords;
 use crate::error::ResbError;
@@ -93,7 +95,7 @@ fn told_span(body: BodyWords<'_>, v: usize, first: usize) -> Option<(usize, usiz
 }
 
 /// Where the units of a text of the 16-bit area are, and how many.
-#[tactic(auto, unfolding(crate::specs::Reading::short_span))]
+#[tactic(auto, unfolding(crate::specs::Inside::Spans::short_span))]
 pub fn short_span(body: &BodyWords<'_>, v: usize) -> Option<(usize, usize)>
     ensures value { result ≡ short_span (told body.now) v }
     ensures bound { IfSome result (λ span. span.0 + span.1 ≤ area_len (told body.now)) }

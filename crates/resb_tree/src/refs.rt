@@ -65,7 +65,7 @@ pub struct KeyRef<'a> {
 impl<'a> Model for KeyRef<'a> {
     ghost use Rattle.std.specs.Prelude.{ℕ, List};
     ghost use Rattle.resb_tree.specs.Forms.{told};
-    ghost use Rattle.resb_tree.specs.Inside.Places.{key_there, IsKey};
+    ghost use Rattle.resb_tree.specs.Inside.KeyPlaces.{key_there, IsKey};
 
     ghost Value = { List ℕ };
 

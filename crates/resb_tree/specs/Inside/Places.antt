@@ -1,10 +1,10 @@
--- What stands at a place of a body, where something does.
+-- The trees, items and entries at places of a body, where there are some.
 use Rattle.std.specs.Prelude.{◌≡◌, ℕ, ◌+◌, ◌<◌, ◌≤◌, List, [], slice_index, Option, Some, None}
 use Rattle.resb_tree.specs.Words.{run}
 use Rattle.resb_tree.specs.Bodies.{Body}
 use Rattle.resb_tree.specs.Tree.{tree_at}
-use Rattle.resb_tree.specs.Tables.{key_at}
 use Rattle.resb_tree.specs.Forms.{item_in, items_end, entry_in, EntriesLie}
+use Rattle.resb_tree.specs.Inside.KeyPlaces.{key_there, HaveKeys}
 use Rattle.resb_tree.specs.declared.forms.ArrayForm.{ArrayForm}
 use Rattle.resb_tree.specs.declared.forms.TableForm.{TableForm}
 use Rattle.resb_tree.specs.declared.resource.Resource.{Resource}
@@ -14,11 +14,6 @@ use Rattle.resb_tree.specs.declared.resource.Resource.TheVariants as r
 abbrev pub the_tree : Option Resource → Resource
 the_tree (Some t) = t
 the_tree None = r.Array []
-
--- a list, or an empty one where there is none
-abbrev pub the_list : {A : Type 0} → Option (List A) → List A
-the_list (Some xs) = xs
-the_list None = []
 
 -- ---- a resource
 
@@ -38,16 +33,6 @@ root_there b = tree_there b 8 (slice_index b.words 0)
 abbrev pub IsRoot : Body → Type 0
 IsRoot b = IsTree b 8 (slice_index b.words 0)
 
--- ---- a key
-
--- the key at a place
-abbrev pub key_there : Body → ℕ → List ℕ
-key_there b place = the_list (key_at b place)
-
--- a key begins at a place
-abbrev pub IsKey : Body → ℕ → Type 0
-IsKey b place = key_at b place ≡ Some (key_there b place)
-
 -- ---- the items of an array
 
 -- the trees of so many items from a place on
@@ -60,10 +45,6 @@ pub record AreItems (b : Body) (form : ArrayForm) (levels from count : ℕ) : Ty
   pub each : (k : ℕ) → k < count → IsTree b levels (item_in form b (from + k))
 
 -- ---- the entries of a table
-
--- each entry of a table begins with the place of a key
-abbrev pub HaveKeys : Body → TableForm → ℕ → ℕ → Type 0
-HaveKeys b form v count = (k : ℕ) → k < count → IsKey b (entry_in form b v count k).0
 
 -- the key and the tree of an entry
 abbrev pub entry_there : Body → TableForm → ℕ → ℕ → ℕ → ℕ → List ℕ × Resource

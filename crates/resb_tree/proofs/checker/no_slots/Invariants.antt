@@ -1,6 +1,6 @@
 use Rattle.std.proofs.Common.{◌≡◌, All, length}
 use Rattle.resb_tree.specs.Forms.{told}
-use Rattle.resb_tree.specs.Inside.Checks.{IsMet}
+use Rattle.resb_tree.specs.Inside.Slots.{IsMet}
 use Rattle.resb_tree.proofs.checker.no_slots.Given as goal
 
 abbrev pub invariant-loop : goal.invariant-loop

@@ -1,6 +1,6 @@
 use Rattle.std.proofs.Common.{◌≡◌, All, length}
 use Rattle.resb_tree.specs.Forms.{told}
-use Rattle.resb_tree.specs.Inside.Checks.{IsTable}
+use Rattle.resb_tree.specs.Inside.Slots.{IsTable}
 use Rattle.resb_tree.proofs.checker.no_tables.Given as goal
 
 abbrev pub invariant-loop : goal.invariant-loop

@@ -1,7 +1,7 @@
 use Rattle.std.proofs.Common.{◌≡◌, ◌-◌, ◌*◌, ◌≤◌, ◌++◌}
 use Rattle.resb_tree.specs.Words.{run, byte_in}
 use Rattle.resb_tree.specs.Forms.{told}
-use Rattle.resb_tree.specs.Inside.Places.{key_there, IsKey}
+use Rattle.resb_tree.specs.Inside.KeyPlaces.{key_there, IsKey}
 use Rattle.resb_tree.proofs.key_places.key_len.Given as goal
 
 -- the bytes that were passed, and those to come, are the key

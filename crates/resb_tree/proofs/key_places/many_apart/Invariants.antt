@@ -2,7 +2,7 @@ use Rattle.std.proofs.Common.{◌≡◌}
 use Rattle.resb_tree.specs.Words.{run}
 use Rattle.resb_tree.specs.Keys.{keys_in}
 use Rattle.resb_tree.specs.Forms.{told, entry_in}
-use Rattle.resb_tree.specs.Inside.Checks.{keys_there}
+use Rattle.resb_tree.specs.Inside.KeyPlaces.{keys_there}
 use Rattle.resb_tree.proofs.key_places.many_apart.Given as goal
 
 abbrev pub invariant-loop-k : goal.invariant-loop-k

@@ -2,8 +2,7 @@ use Rattle.std.proofs.Common.{◌≡◌, ◌-◌, ◌+◌}
 use Rattle.resb_tree.specs.Words.{run}
 use Rattle.resb_tree.specs.Keys.{stands_in}
 use Rattle.resb_tree.specs.Forms.{told, entry_in}
-use Rattle.resb_tree.specs.Inside.Places.{key_there}
-use Rattle.resb_tree.specs.Inside.Checks.{keys_there}
+use Rattle.resb_tree.specs.Inside.KeyPlaces.{key_there, keys_there}
 use Rattle.resb_tree.proofs.key_places.stands_later.Given as goal
 
 abbrev pub invariant-loop-other : goal.invariant-loop-other

@@ -1,6 +1,6 @@
 use Rattle.std.proofs.Common.{◌≡◌, ◌-◌, ◌*◌}
 use Rattle.resb_tree.specs.Words.{byte_in}
-use Rattle.resb_tree.specs.Reading.{key_stop}
+use Rattle.resb_tree.specs.Inside.Spans.{key_stop}
 use Rattle.resb_tree.proofs.keys.key_stop.Given as goal
 
 abbrev pub invariant-loop-at : goal.invariant-loop-at

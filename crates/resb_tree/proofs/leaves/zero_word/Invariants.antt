@@ -1,7 +1,7 @@
 use Rattle.std.proofs.Common.{◌≡◌, ◌-◌, ◌*◌}
 use Rattle.resb_tree.specs.Bodies.{area_len, area_unit}
 use Rattle.resb_tree.specs.Forms.{told}
-use Rattle.resb_tree.specs.Reading.{zero_from}
+use Rattle.resb_tree.specs.Inside.Spans.{zero_from}
 use Rattle.resb_tree.proofs.leaves.zero_word.Given as goal
 
 abbrev pub invariant-loop-at : goal.invariant-loop-at
