@@ -52,7 +52,8 @@ impl<Tz: Civil> Located<Tz> {
 
     /// The same, of a time in UTC whose wall time in a sound zone is one of the calendar.
     pub fn inside(zone: &Tz, utc: NaiveDateTime) -> Located<Tz>
-        requires { Tz.sound zone.now → IsWallSecond (wall_of utc +ℤ Tz.off zone.now (wall_of utc)) }
+        requires { Tz.sound zone.now
+            → IsWallSecond (wall_of utc +ℤ Tz.off zone.now (wall_of utc)) }
         ensures second { second_in result ≡ wall_of utc }
         ensures nanos { nanos_in result ≡ nanos_of utc }
         ensures zone { zone_in result ≡ zone.now }
