@@ -67,7 +67,8 @@ in_year y m d is = record {
   not_over = omega (arith, signed_arith, day_of-is y m d, is.first, day_in_year y m d is.from is.to is.last, year_start-next y);
 }
 
-year_once : (day y z : ℤ) → HoldsDay y day → HoldsDay z day → y ≡ z
+-- one year holds a day
+pub year_once : (day y z : ℤ) → HoldsDay y day → HoldsDay z day → y ≡ z
 year_once day y z a b =
     by_lt_z y z (λ lt. absurd (omega (arith, signed_arith, a.not_over, b.begun, starts_in_order (y +ℤ pos 1) z (omega (arith, signed_arith, lt)))))
     (λ from. by_lt_z z y (λ lt. absurd (omega (arith, signed_arith, b.not_over, a.begun, starts_in_order (z +ℤ pos 1) y (omega (arith, signed_arith, lt))))) (λ to. omega (arith, signed_arith, from, to)))

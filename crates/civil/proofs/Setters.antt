@@ -1,11 +1,11 @@
 -- What a setter answers, for any reading of the date that it changes.
 use Rattle.std.proofs.Common.{◌≡◌, ◌↔◌, ℕ, ◌-◌, Option, Some, None, IsSome, IfSome, refl, sym, arith, ℤ, pos, negsuc, ◌+ℤ◌, ◌≤ℤ◌}
-use Rattle.std.proofs.lemmas.Int.{by_lt_z}
 use Rattle.civil.specs.Calendar.{year_start, day_of}
 use Rattle.civil.specs.CivilDates.{HoldsDay, IsDate, IsDateOf, IsDay}
 use Rattle.civil.specs.Ordinals.{IsOrdinal, IsOrdinalOf, ordinal_day}
 use Rattle.jiff_core.proofs.SignedLemmas.{signed_arith}
 use Rattle.civil.proofs.CalendarLemmas.{starts_in_order, year_start-next, first_start, last_start}
+use Rattle.civil.proofs.DateMoves.{year_once}
 
 pub record IsAnswer (r : Option ℤ) (y : ℤ) (m d : ℕ) : Type 0 where
   pub changed : IfSome r (λ date. IsDateOf date y m d)
@@ -38,15 +38,6 @@ answered_ordinal r y x n year some is =
       exists = (λ s. (some.0 s, tt), λ e. some.1 e.0);
     })
 
--- one year holds a day
-pub holds_once : (day y z : ℤ) → HoldsDay y day → HoldsDay z day → y ≡ z
-holds_once day y z a b =
-    by_lt_z y z
-    (λ before. absurd (omega (arith, signed_arith, a.not_over, b.begun, starts_in_order (y +ℤ pos 1) z (omega (arith, signed_arith, before)))))
-    (λ from. by_lt_z z y
-    (λ after. absurd (omega (arith, signed_arith, b.not_over, a.begun, starts_in_order (z +ℤ pos 1) y (omega (arith, signed_arith, after)))))
-    (λ to. omega (arith, signed_arith, from, to)))
-
 -- `ordinal_day` as an equation, for `omega`
 pub ordinal_day-is : (y : ℤ) (n : ℕ) → ordinal_day y n ≡ year_start y +ℤ pos (n - 1)
 unfolding ordinal_day
@@ -59,7 +50,7 @@ holds_ordinal day y n is = record {
 }
 
 pub ordinal_once : (day y z : ℤ) (n k : ℕ) → IsOrdinalOf day y n → IsOrdinalOf day z k → y ≡ z
-ordinal_once day y z n k is there = holds_once day y z (holds_ordinal day y n is) (holds_ordinal day z k there)
+ordinal_once day y z n k is there = year_once day y z (holds_ordinal day y n is) (holds_ordinal day z k there)
 
 -- the days of a year of the calendar are days of it
 pub ordinal_inside : (y : ℤ) (n : ℕ) → negsuc 262142 ≤ℤ y → y ≤ℤ pos 262142 → IsOrdinal y n → IsDay (ordinal_day y n)

@@ -1,7 +1,6 @@
 -- A wall second is its day and its second of that day.
 use Rattle.std.proofs.Common.{◌≡◌, ℕ, ◌<◌, ℤ, pos, ◌+ℤ◌, ◌*ℤ◌, arith}
-use Rattle.civil.specs.Clock.{IsWallSecond, wall_day, wall_clock}
-use Rattle.civil.specs.CivilDates.{IsDay}
+use Rattle.civil.specs.Clock.{wall_day, wall_clock}
 use Rattle.jiff_core.proofs.SignedLemmas.{signed_arith, int_rem_euclid-parts}
 
 pub wall_parts : (w : ℤ) → (pos 86400 *ℤ wall_day w +ℤ pos (wall_clock w) ≡ w) × (wall_clock w < 86400)
@@ -13,12 +12,3 @@ pub wall_once : (w day : ℤ) (second : ℕ) → pos 86400 *ℤ day +ℤ pos sec
 wall_once w day second e h =
     let parts = wall_parts w in
     (omega (arith, signed_arith, parts.0, parts.1), omega (arith, signed_arith, parts.0, parts.1))
-
--- the days of the calendar's wall seconds are those of the calendar
-pub wall_day-in : (w : ℤ) → IsWallSecond w → IsDay (wall_day w)
-wall_day-in w is =
-    let parts = wall_parts w in
-    record {
-      first = omega (arith, signed_arith, parts.0, parts.1, is.first);
-      last = omega (arith, signed_arith, parts.0, parts.1, is.last);
-    }

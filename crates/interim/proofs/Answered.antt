@@ -1,5 +1,5 @@
 -- How refusals go on from call to call, and where clock times lead.
-use Rattle.std.proofs.Common.{◌≡◌, ℕ, ◌/◌, Bool, IsTrue, Option, Some, None, Result, Ok, Err, ℤ, pos, ◌+ℤ◌, ◌-ℤ◌, false, true, refl, sym, subst}
+use Rattle.std.proofs.Common.{◌≡◌, ℕ, ◌/◌, Bool, IsTrue, Option, Some, None, Result, Ok, Err, IsErrAnd, ℤ, pos, ◌+ℤ◌, ◌-ℤ◌, false, true, refl, sym, subst}
 use Rattle.std.specs.Ordering.{int_cmp, int_eq}
 use Rattle.civil.specs.Calendar.{weekday_of}
 use Rattle.interim.specs.declared.datetime.Refused.{Refused}
@@ -15,15 +15,17 @@ use Rattle.interim.specs.DatesAndTimes.{date_at, time_at, time_cmp}
 use Rattle.interim.specs.NamedDates.{own_weekday, week_day, weeks_on, weeks_more, deciding_time}
 
 -- a refusal goes on where nothing there leaves nothing here
-pub refused_on : {T U V W : Type 0} (memory memory' : Bool) (view : T → V) (view' : U → W) (e : Refused) (found : Option V) (found' : Option W)
-    → (IsTrue memory → IsTrue memory') → (found ≡ None → found' ≡ None) → Gives memory view (Err e) found → Gives memory' view' (Err e) found'
-refused_on memory memory' view view' OutOfRange found found' wants none h = none h
-refused_on memory memory' view view' Memory found found' wants none h = wants h
+pub refused_on : {T U V W : Type 0} (memory memory' : Bool) (view : T → V) (view' : U → W) (r : Result U Refused) (e : Refused) (found : Option V) (found' : Option W) → IsErrAnd r (λ y. y ≡ e)
+    → (IsTrue memory → IsTrue memory') → (found ≡ None → found' ≡ None) → Gives memory view (Err e) found → Gives memory' view' r found'
+refused_on memory memory' view view' (Ok x) e found found' is wants none h = absurd is
+refused_on memory memory' view view' (Err OutOfRange) e found found' is wants none h = none (subst (λ (x : Refused). Gives memory view (Err x) found) (sym is) h)
+refused_on memory memory' view view' (Err Memory) e found found' is wants none h = wants (subst (λ (x : Refused). Gives memory view (Err x) found) (sym is) h)
 
-pub refused_lands : {T U V W : Type 0} (memory memory' : Bool) (view : T → V) (view' : U → W) (e : Refused) (found : Option V) (P : Option W → Type 0)
-    → (IsTrue memory → IsTrue memory') → (found ≡ None → P None) → Gives memory view (Err e) found → Answers memory' view' (Err e) P
-refused_lands memory memory' view view' OutOfRange found P wants none h = none h
-refused_lands memory memory' view view' Memory found P wants none h = wants h
+pub refused_lands : {T U V W : Type 0} (memory memory' : Bool) (view : T → V) (view' : U → W) (r : Result U Refused) (e : Refused) (found : Option V) (P : Option W → Type 0) → IsErrAnd r (λ y. y ≡ e)
+    → (IsTrue memory → IsTrue memory') → (found ≡ None → P None) → Gives memory view (Err e) found → Answers memory' view' r P
+refused_lands memory memory' view view' (Ok x) e found P is wants none h = absurd is
+refused_lands memory memory' view view' (Err OutOfRange) e found P is wants none h = none (subst (λ (x : Refused). Gives memory view (Err x) found) (sym is) h)
+refused_lands memory memory' view view' (Err Memory) e found P is wants none h = wants (subst (λ (x : Refused). Gives memory view (Err x) found) (sym is) h)
 
 -- where a clock time leads on a day
 pub clock_on-no_time : (days : Ends) (clock : TimeSpec) (day : ℤ) → clock_time clock ≡ None → clock_on days clock day ≡ None

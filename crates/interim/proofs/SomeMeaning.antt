@@ -19,7 +19,8 @@ use Rattle.interim.specs.declared.types.TimeSpec.{TimeSpec}
 use Rattle.interim.specs.Aims.{Aim, AtSecond, AtWall, clock_on, clock_or, midnight}
 use Rattle.interim.specs.Walls.{Wall, month_day}
 use Rattle.interim.specs.DatesAndTimes.{IsDateOn, date_at}
-use Rattle.interim.specs.PartMeanings.{IsFromWall, LeadsTo, PartsLeadTo}
+use Rattle.interim.specs.PartMeanings.{LeadsTo, PartsLeadTo}
+use Rattle.interim.specs.Inside.Resolving.{IsFromWall}
 use Rattle.interim.specs.NamedDates.{IsNamed, week_day}
 use Rattle.interim.specs.Meaning.{Lands, MeansFromWall, MeansIn, moment_at}
 use Rattle.interim.specs.MeaningLaws.{SomeMeaning}

@@ -1,4 +1,4 @@
--- A phrase as its parts, or as its first fault (docs/GRAMMAR.md).
+-- A phrase as its parts, or as its first fault (docs/GRAMMAR.md, "Parts").
 use Rattle.std.specs.Prelude.{List, Option, Some, None, Result, Ok, Err}
 use Rattle.interim.specs.declared.errors.DateError.{DateError}
 use Rattle.interim.specs.declared.errors.DateError.TheVariants.{UnexpectedTime, UnexpectedAbsoluteDate, UnexpectedDate}

@@ -3,4 +3,6 @@ pub mod JiffBounds
 pub mod Nanoseconds
 pub mod Orders
 pub mod ReadAs
+pub mod Reading
+pub mod Resolving
 pub mod Seen

@@ -25,14 +25,6 @@ LeadsTo days base dialect (Relative (Months n)) clock found =
 LeadsTo days base dialect (FromName name direction) clock found =
     (day : Option ℤ) × IsNamed days base dialect clock name direction day × (found ≡ option_and_then (clock_or days midnight clock) day)
 
--- all date parts but an interval of seconds
-abbrev pub IsFromWall : DateSpec → Type 0
-IsFromWall (Relative (Seconds n)) = ⊥
-IsFromWall (Relative (Days n)) = Unit {0}
-IsFromWall (Relative (Months n)) = Unit {0}
-IsFromWall (Absolute date) = Unit {0}
-IsFromWall (FromName name direction) = Unit {0}
-
 -- without a date part the date is the base's; without a clock time too there is no meaning
 abbrev pub PartsLeadTo : Ends → Wall → Dialect → Option DateSpec → Option TimeSpec → Option Aim → Type 0
 PartsLeadTo days base dialect (Some date) clock found = LeadsTo days base dialect date clock found

@@ -1,9 +1,8 @@
 -- The steps that the rules of phrases are made of (docs/GRAMMAR.md, "Tokens").
-use Rattle.std.specs.Prelude.{◌≡◌, ℕ, Bool, true, false, List, Option, Some, None, Result, Ok, Err, if◌then◌else◌}
-use Rattle.interim.specs.declared.errors.DateError.{DateError}
+use Rattle.std.specs.Prelude.{ℕ, Bool, true, false, Option, Some, None, Ok, if◌then◌else◌}
 use Rattle.interim.specs.declared.errors.Expected.TheVariants as expected
-use Rattle.interim.specs.TokenKinds.{Token, Kind}
-use Rattle.interim.specs.Steps.{Outcome, Step, ◌>>=◌, pure, stop}
+use Rattle.interim.specs.TokenKinds.{Kind}
+use Rattle.interim.specs.Steps.{Step, ◌>>=◌, pure, stop}
 use Rattle.interim.specs.NextTokens.{after_token, next, next_kind, fault_at, given}
 use Rattle.interim.specs.TokenTests.{number_at, number_in, dash_at, sees}
 
@@ -31,8 +30,3 @@ following_number = λ ts. taken (number_in (next_kind ts)) ts
 -- a token that no row names is passed over; at the end nothing is
 unfoldable pub pass_over : Step (Unit {0})
 pass_over = λ ts. Ok (tt, after_token ts)
-
--- a call answers the outcome of a step, and leaves its tokens
-abbrev pub Reads : {A : Type 0} → Outcome A → Result A DateError → List Token → Type 0
-Reads outcome (Ok a) left = outcome ≡ Ok (a, left)
-Reads outcome (Err e) left = outcome ≡ Err e

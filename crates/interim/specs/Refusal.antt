@@ -43,12 +43,6 @@ civil_seconds = record { first = negsuc 8334601228799; last = pos 8210266876799 
 
 -- ---- a phrase
 
--- what is told of a refusal: want of memory, or that the date, or else the time, is missing
-abbrev pub refusal_of : Refused → Option DateSpec → DateError
-refusal_of Memory date = errors.Memory
-refusal_of OutOfRange (Some date) = errors.MissingDate
-refusal_of OutOfRange None = errors.MissingTime
-
 -- a phrase that was read is refused so: as it has a date part, or not, and has no meaning; or for want of memory
 abbrev pub IsRefusedAs : Bool → DateError → Option DateSpec → Type 0 → Type 0
 IsRefusedAs memory errors.MissingDate (Some date) has_none = has_none

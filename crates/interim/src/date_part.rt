@@ -3,7 +3,7 @@ ghost use Rattle.interim.specs.DatePart as spec;
 ghost use Rattle.interim.specs.Intervals.{count_of, scaled};
 ghost use Rattle.interim.specs.Parts.{full_year as year_meant};
 ghost use Rattle.interim.specs.Inside.Seen.{seen};
-ghost use Rattle.interim.specs.ReadingSteps.{Reads};
+ghost use Rattle.interim.specs.Inside.Reading.{Reads};
 ghost use Rattle.interim.specs.NextTokens.{next_token, after_token};
 
 use crate::errors::{DateError, DateResult, Expected};

@@ -36,7 +36,8 @@ pub trait Date: Copy + PartialOrd {
     /// The date moved by so many months, cut to the last day of the month.
     fn offset_months(self, months: i32) -> Result<Self, Refused>
         ensures { (y : ℤ) × (m : ℕ) × (d : ℕ) × IsDateOn (number self) y m d
-            × Gives memory (λ r. Self.number r) result (within calendar (months_on y m d months)) };
+            × Gives memory (λ r. Self.number r) result
+            (within calendar (months_on y m d months)) };
 
     /// The date moved by so many days.
     fn offset_days(self, days: i64) -> Result<Self, Refused>

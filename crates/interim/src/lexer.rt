@@ -1,6 +1,7 @@
 ghost use Rattle.std.specs.Prelude.{◌≡◌, ℕ, IsTrue, List, ◌∷◌, ◌<◌, ◌≤◌, [], length, take, min, Ok, Some, IfNone, if◌then◌else◌};
 ghost use Rattle.interim.specs.Characters.{is_blank, is_digit, is_letter, continues, run_len, skip, decimal_from};
 ghost use Rattle.interim.specs.Tokens.{mark, more, kind_of, tokens_of};
+ghost use Rattle.interim.specs.Inside.Reading.{Reads};
 ghost use Rattle.interim.specs.Inside.Seen.{front_kind, seen_kind_option, seen_option, tokens_left};
 ghost use Rattle.interim.specs.NextTokens as ahead;
 ghost use Rattle.interim.specs.ReadingSteps as step;
@@ -261,7 +262,7 @@ impl<'a> Lexer<'a> {
     /// Takes the number that is needed.
     #[tactic(auto, unfolding(crate::specs::ReadingSteps::number))]
     pub fn number(&mut self) -> DateResult<u16>
-        ensures { step.Reads (step.number self.old) result self.new }
+        ensures { Reads (step.number self.old) result self.new }
     {
         if let Some(token) = self.peek()
             && let Kind::Number(n) = token.kind
@@ -275,7 +276,7 @@ impl<'a> Lexer<'a> {
     /// Takes the dash that is needed.
     #[tactic(auto, unfolding(crate::specs::ReadingSteps::dash))]
     pub fn dash(&mut self) -> DateResult<()>
-        ensures { step.Reads (step.dash self.old) result self.new }
+        ensures { Reads (step.dash self.old) result self.new }
     {
         if let Some(token) = self.peek()
             && let Kind::Dash = token.kind

@@ -4,12 +4,13 @@ ghost use Rattle.std.specs.declared.cmp.Ordering.{Ordering};
 ghost use Rattle.std.specs.Ordering.{is_eq};
 ghost use Rattle.interim.specs.Grammar.{parts_of};
 ghost use Rattle.interim.specs.Tokens.{phrase_tokens};
-ghost use Rattle.interim.specs.Refusal.{Gives, Answers, AnswersPhrase, refusal_of, within};
+ghost use Rattle.interim.specs.Refusal.{Gives, Answers, AnswersPhrase, within};
 ghost use Rattle.interim.specs.Aims.{Aim, clock_on, clock_or, clock_time, midnight};
 ghost use Rattle.interim.specs.Walls.{Wall, month_day, sought, step_by};
 ghost use Rattle.interim.specs.DatesAndTimes.{IsDateOn, date_at};
 ghost use Rattle.interim.specs.NamedDates.{IsNamed, deciding_time, own_weekday, week_day, weeks_more, weeks_on};
-ghost use Rattle.interim.specs.PartMeanings.{IsFromWall, LeadsTo};
+ghost use Rattle.interim.specs.PartMeanings.{LeadsTo};
+ghost use Rattle.interim.specs.Inside.Resolving.{IsFromWall, refusal_of};
 ghost use Rattle.interim.specs.Meaning.{Lands, Means};
 
 use crate::datetime::{Date, DateTime, Refused, Time};

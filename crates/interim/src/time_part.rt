@@ -1,6 +1,6 @@
 ghost use Rattle.std.specs.Prelude.{◌≡◌};
 ghost use Rattle.interim.specs.Parts.{clock, shifted as shifted_hour};
-ghost use Rattle.interim.specs.ReadingSteps.{Reads};
+ghost use Rattle.interim.specs.Inside.Reading.{Reads};
 ghost use Rattle.interim.specs.NextTokens.{next_token, after_token};
 ghost use Rattle.interim.specs.TimePart as spec;
 

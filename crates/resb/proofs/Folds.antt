@@ -7,7 +7,7 @@ use Rattle.resb_tree.specs.declared.resource.Resource.TheOpen.{Resource-F}
 use Rattle.resb_tree.specs.declared.resource.Resource.TheVariants as r
 use Rattle.resb_tree.specs.declared.resource.Resource.TheVariants.{rolls-Integer, rolls-Text, rolls-Bytes, rolls-Integers, rolls-Array, rolls-Table}
 use Rattle.resb_tree.specs.Keys.{keys_in}
-use Rattle.resb.specs.KeyPlan.{values_in, told_values}
+use Rattle.resb.specs.Entries.{values_in, told_values}
 use Rattle.resb.specs.TreeKeys.{layer_keys, keys_met, entry_keys, item_keys}
 use Rattle.resb.specs.LaidTrees.{item, text_laid, bytes_laid, integers_laid, array_laid, table_laid, layer_laid, laid}
 

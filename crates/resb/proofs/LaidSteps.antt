@@ -2,7 +2,7 @@
 use Rattle.std.proofs.Common.{◌≡◌, ℕ, ◌+◌, ◌<◌, ◌≤◌, List, [], ◌∷◌, length, drop, get_or, refl, ◌∙◌, arith}
 use Rattle.std.proofs.lemmas.List.{drop_more, length-map}
 use Rattle.resb_tree.specs.declared.resource.Resource.{Resource}
-use Rattle.resb.specs.KeyPlan.{values_in}
+use Rattle.resb.specs.Entries.{values_in}
 
 pub item_cons : {A : Type 0} (xs : List A) (i : ℕ) (x : A) → i < length xs → x ≡ get_or xs i x → drop i xs ≡ x ∷ drop (i + 1) xs
 item_cons xs i x lt is = drop_more xs i x lt ∙ rw (← is) refl

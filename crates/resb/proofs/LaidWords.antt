@@ -7,13 +7,12 @@ use Rattle.resb_tree.specs.declared.error.ResbError.{ResbError}
 use Rattle.resb_tree.specs.declared.error.ResbError.TheVariants.{Memory, NoTree, TooLarge, BadKey}
 use Rattle.resb_tree.specs.declared.resource.Resource.{Resource}
 use Rattle.resb_tree.specs.declared.resource.Resource.TheVariants as r
-use Rattle.resb.specs.KeyPlan.{no_places}
+use Rattle.resb.specs.Inside.Laying.{no_places, IsLaid}
 use Rattle.resb.specs.Plan.{most_words, Fits, FitsAll, Refuses}
 use Rattle.resb.specs.LaidTrees.{laid, lay_all, item}
 use Rattle.resb.specs.Packing.{pack_units, pack_bytes}
 use Rattle.resb.specs.WrittenFiles.{most_of}
 use Rattle.resb.specs.TreeKeys.{keys_met, item_keys}
-use Rattle.resb.specs.Inside.Laying.{IsLaid}
 use Rattle.resb.proofs.Folds.{laid-Text, laid-Bytes, laid-Integers}
 use Rattle.resb.proofs.PackedWords.{length-pack_units, length-pack_bytes}
 use Rattle.resb.proofs.TreeKinds.{IsLeaf, IsParent, most_both, at_place}

@@ -7,7 +7,8 @@ use Rattle.std.proofs.lemmas.List.{at_drop_more}
 use Rattle.std.proofs.lemmas.Slice.Eq.{bytes_eq-Decides}
 use Rattle.resb_tree.specs.Keys.{stands_in}
 use Rattle.resb_tree.specs.Weight.{sum_of}
-use Rattle.resb.specs.Pool.{all_in, bare, place_told}
+use Rattle.resb.specs.Pool.{all_in, bare}
+use Rattle.resb.specs.Inside.Pooling.{place_told}
 use Rattle.resb.specs.BadKeys.{is_key, all_keys}
 use Rattle.resb.specs.WrittenFiles.{most_of}
 use Rattle.resb.proofs.Pools.{if_cases, unplaced_key}

@@ -12,8 +12,8 @@ use Rattle.std.proofs.lemmas.Map.Text.{btree_map_updates_str}
 use Rattle.std.proofs.lemmas.Slice.Eq.{bytes_eq-Decides}
 use Rattle.resb_tree.specs.Keys.{stands_in}
 use Rattle.resb_tree.specs.Bodies.{◌>>=◌}
-use Rattle.resb.specs.Pool.{bare, place_of, place_told, pool_end}
-use Rattle.resb.specs.KeyPlan.{added, pooled}
+use Rattle.resb.specs.Pool.{bare, place_of, pool_end}
+use Rattle.resb.specs.Inside.Pooling.{place_told, added, pooled}
 use Rattle.resb.specs.TreeKeys.{key_place, pool_bytes, first_keys}
 use Rattle.resb.specs.Writing.{places_of}
 use Rattle.resb.specs.WrittenFiles.{most_of}

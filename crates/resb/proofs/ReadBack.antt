@@ -15,7 +15,7 @@ use Rattle.resb.specs.Packing.{pack_units}
 use Rattle.resb.specs.LaidTrees.{item, Laid, text_laid, bytes_laid, integers_laid}
 use Rattle.std.specs.Simd.Lanes.{all_below}
 use Rattle.resb.proofs.PackedWords.{Stand, StandIn, Below, below_append, stand_front, stand_run, bytes_stand, units_stand, length-pack_units, length-pack_bytes}
-use Rattle.resb.specs.KeyPlan.{values_in}
+use Rattle.resb.specs.Entries.{values_in}
 use Rattle.resb.proofs.PoolReads.{Each, Placed}
 
 -- ---- items

@@ -12,7 +12,7 @@ use Rattle.resb.specs.DraftParents.{Lacks, NoArray, AreNames, RefusesTable, Make
 use Rattle.resb.specs.DraftParents.{NoTable as Untabled}
 use Rattle.resb.specs.Inside.Telling.{NoTable, Names}
 use Rattle.resb.specs.Plan.{Refuses}
-use Rattle.resb.specs.KeyPlan.{values_in}
+use Rattle.resb.specs.Entries.{values_in}
 use Rattle.resb.specs.Pool.{all_in, bare}
 use Rattle.resb.specs.WrittenFiles.{most_of}
 use Rattle.resb.specs.Writing.{depth}

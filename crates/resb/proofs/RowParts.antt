@@ -5,7 +5,8 @@ use Rattle.std.proofs.lemmas.Bool.{and_parts, or_parts}
 use Rattle.resb_tree.specs.declared.resource.Resource.{Resource}
 use Rattle.resb_tree.specs.Header.{tree_of}
 use Rattle.resb_tree.specs.Weight.{weight}
-use Rattle.resb.specs.Plan.{bundle_of, most_words}
+use Rattle.resb.specs.Inside.Bundles.{bundle_of}
+use Rattle.resb.specs.Plan.{most_words}
 use Rattle.resb.specs.Pool.{place_of, words_end}
 use Rattle.resb.specs.LaidTrees.{laid}
 use Rattle.resb.specs.WrittenFiles.{most_of, most_entries, written}

@@ -11,7 +11,7 @@ use Rattle.resb.specs.DraftRows.{Holds, HasRoom, Puts}
 use Rattle.resb.specs.DraftParents.{MakesArray}
 use Rattle.resb.specs.Inside.Telling.{Tells, Names}
 use Rattle.resb.specs.Plan.{Refuses}
-use Rattle.resb.specs.KeyPlan.{values_in}
+use Rattle.resb.specs.Entries.{values_in}
 use Rattle.resb.specs.Pool.{bare}
 use Rattle.resb.specs.BadKeys.{all_keys, any_bad, has_bad_key}
 use Rattle.resb.specs.declared.draft.Draft.{Draft}

@@ -8,7 +8,8 @@ use Rattle.resb_tree.specs.declared.resource.Resource.TheVariants as r
 use Rattle.resb_tree.specs.Bodies.{Body}
 use Rattle.resb_tree.specs.Keys.{distinct, keys_in}
 use Rattle.resb_tree.specs.Weight.{layer_weight, weight, weights, sum_of, entries_sum}
-use Rattle.resb.specs.KeyPlan.{values_in, told_values, no_places}
+use Rattle.resb.specs.Entries.{values_in, told_values}
+use Rattle.resb.specs.Inside.Laying.{no_places}
 use Rattle.resb.specs.TreeKeys.{keys_met, entry_keys, item_keys}
 use Rattle.resb.specs.LaidTrees.{Laid, laid, lay_all, text_laid, bytes_laid, integers_laid}
 use Rattle.std.specs.Simd.Lanes.{all_below}

@@ -24,7 +24,7 @@ use Rattle.std.proofs.lemmas.List.{length-map}
 use Rattle.resb.specs.TreeKeys.{item_keys, keys_met}
 use Rattle.resb.proofs.TreeKinds.{IsParent, leaf-Text, leaf-Bytes, leaf-Integer, parent-Array, parent-Table, at_place, array_over, table_over, length-lay_all, length-own, deep}
 use Rattle.resb.proofs.Folds.{laid-Text, laid-Bytes, laid-Integers, laid-Integer, laid-Array, laid-Table}
-use Rattle.resb.specs.KeyPlan.{values_in}
+use Rattle.resb.specs.Entries.{values_in}
 
 -- ---- a tree that the words have room for
 

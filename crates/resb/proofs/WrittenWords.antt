@@ -9,7 +9,7 @@ use Rattle.resb_tree.specs.declared.resource.Resource.{Resource}
 use Rattle.resb.specs.Pool.{place_of, words_end}
 use Rattle.resb.specs.DraftRows.{HasRoom}
 use Rattle.resb.specs.Drafts.{Unwritten}
-use Rattle.resb.specs.KeyPlan.{pooled, Fills}
+use Rattle.resb.specs.Inside.Pooling.{pooled, Fills}
 use Rattle.resb.specs.Plan.{Fits, Refuses, keys_end, most_words}
 use Rattle.resb_tree.specs.Weight.{weight}
 use Rattle.resb.specs.Packing.{pack_bytes}

@@ -6,7 +6,7 @@ use Rattle.resb_tree.specs.declared.error.ResbError.TheVariants.{Memory, NoTree,
 use Rattle.resb_tree.specs.declared.resource.Resource.{Resource}
 use Rattle.resb_tree.specs.declared.resource.Resource.TheVariants as r
 use Rattle.resb.specs.Plan.{Refuses}
-use Rattle.resb.specs.KeyPlan.{values_in}
+use Rattle.resb.specs.Entries.{values_in}
 use Rattle.resb.specs.Pool.{all_in}
 use Rattle.resb.specs.declared.draft.Draft.{Draft}
 use Rattle.resb.specs.DraftRows.{Holds, HasRoom}

@@ -2,7 +2,7 @@
 use Rattle.std.specs.Prelude.{◌≡◌, ℕ, List, [], map}
 use Rattle.resb_tree.specs.declared.resource.Resource.{Resource}
 use Rattle.resb_tree.specs.declared.resource.Resource.TheVariants as r
-use Rattle.resb.specs.KeyPlan.{told_values}
+use Rattle.resb.specs.Entries.{told_values}
 use Rattle.resb.specs.TreeKeys.{keys_met, entry_keys, item_keys}
 
 -- a walk meets each key where the tree has it

@@ -2,9 +2,9 @@ pub mod BadKeys
 pub mod DraftParents
 pub mod DraftRows
 pub mod Drafts
+pub mod Entries
 pub mod Inside
 pub mod KeyLaws
-pub mod KeyPlan
 pub mod LaidTrees
 pub mod Laws
 pub mod Packing

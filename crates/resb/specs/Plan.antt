@@ -1,10 +1,9 @@
 -- The limits of the words that are written (docs/FORMATS.md, "The writer").
-use Rattle.std.specs.Prelude.{◌≡◌, ℕ, ◌+◌, ◌≤◌, false, List, [], ◌∷◌, ◌++◌, length, map}
+use Rattle.std.specs.Prelude.{◌≡◌, ℕ, ◌+◌, ◌≤◌, false, List, length, map}
 use Rattle.resb.specs.Pool.{words_end}
-use Rattle.resb.specs.TreeKeys.{keys_met, item_keys, pool_bytes, key_pool}
-use Rattle.resb.specs.Packing.{pack_bytes}
+use Rattle.resb.specs.TreeKeys.{keys_met, item_keys, key_pool}
 use Rattle.resb.specs.LaidTrees.{laid, lay_all}
-use Rattle.resb.specs.WrittenFiles.{most_of, most_entries, header}
+use Rattle.resb.specs.WrittenFiles.{most_of, most_entries}
 use Rattle.resb.specs.BadKeys.{any_bad}
 use Rattle.resb.specs.Writing.{has_wide_integer}
 use Rattle.resb_tree.specs.declared.error.ResbError.{ResbError}
@@ -32,12 +31,6 @@ pub record FitsAll (ts : List Resource) (places : List ℕ → ℕ) (at : ℕ) :
 -- the body word behind the keys
 abbrev pub keys_end : Resource → ℕ
 keys_end t = words_end (key_pool t)
-
--- the words of a file of these keys and resources, of which one is the root
-abbrev pub bundle_of : List (List ℕ) → ℕ → ℕ → List ℕ → ℕ → List ℕ
-bundle_of keys keys_end root resources most =
-    let end = keys_end + length resources in
-    header ++ ((root ∷ 7 ∷ keys_end ∷ end ∷ end ∷ most ∷ 0 ∷ keys_end ∷ []) ++ pack_bytes (pool_bytes keys) ++ resources)
 
 -- memory ran out, or the tree is too large, which it is only where it does not fit
 abbrev pub Refuses : Type 0 → ResbError → Type 0

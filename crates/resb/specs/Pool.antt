@@ -1,5 +1,5 @@
 -- The pool of keys: where each begins (docs/FORMATS.md, "Keys").
-use Rattle.std.specs.Prelude.{ℕ, ◌+◌, Bool, true, ◌&&◌, List, [], ◌∷◌, length, map, Option, Some, None, if◌then◌else◌}
+use Rattle.std.specs.Prelude.{ℕ, ◌+◌, Bool, true, ◌&&◌, List, [], ◌∷◌, length, map}
 use Rattle.std.specs.Borrow.{Bor}
 use Rattle.resb_tree.specs.Keys.{stands_in}
 use Rattle.resb.specs.TreeKeys.{key_place, pool_bytes}
@@ -20,10 +20,6 @@ words_end keys = 8 + length (pack_bytes (pool_bytes keys))
 -- the byte where a key begins, or would begin behind the others
 abbrev pub place_of : List (List ℕ) → List ℕ → ℕ
 place_of keys = key_place keys 32
-
--- the byte where a key of the pool begins
-abbrev pub place_told : List (List ℕ) → List ℕ → Option ℕ
-place_told keys key = if stands_in key keys then Some (place_of keys key) else None
 
 -- each of these is one of those
 abbrev pub all_in : List (List ℕ) → List (List ℕ) → Bool

@@ -1,6 +1,7 @@
 ghost use Rattle.std.specs.Prelude.{◌≡◌, ◌+◌, ◌*◌, ◌++◌, ◌∷◌, ◌≤◌, [], length, IfOk, OnOk, IfErr};
 ghost use Rattle.resb.specs.Pool.{bare};
-ghost use Rattle.resb.specs.Plan.{most_words, bundle_of, Refuses};
+ghost use Rattle.resb.specs.Plan.{most_words, Refuses};
+ghost use Rattle.resb.specs.Inside.Bundles.{bundle_of};
 ghost use Rattle.resb.specs.Packing.{pack_bytes};
 ghost use Rattle.resb.specs.TreeKeys.{pool_bytes};
 ghost use Rattle.resb.specs.WrittenFiles.{header};

@@ -2,7 +2,7 @@ ghost use Rattle.std.specs.Prelude.{◌≡◌, ◌≢◌, ℕ, ◌+◌, ◌*◌,
 ghost use Rattle.resb_tree.specs.Keys.{stands_in, distinct};
 ghost use Rattle.resb_tree.specs.Weight.{sum_of};
 ghost use Rattle.resb.specs.Pool.{all_in, bare, words_end};
-ghost use Rattle.resb.specs.KeyPlan.{places_in};
+ghost use Rattle.resb.specs.Inside.KeyPlaces.{places_in};
 ghost use Rattle.resb.specs.Plan.{most_words, Refuses};
 ghost use Rattle.resb.specs.WrittenFiles.{most_of};
 ghost use Rattle.resb.specs.Writing.{places_of};

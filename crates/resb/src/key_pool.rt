@@ -1,7 +1,8 @@
 ghost use Rattle.std.specs.Prelude.{◌≡◌, ℕ, true, [], ◌∷◌, ◌++◌, map, OnOk, IfOk};
 ghost use Rattle.resb_tree.specs.Keys.{stands_in, keys_in};
 ghost use Rattle.resb.specs.Pool.{bare, place_of};
-ghost use Rattle.resb.specs.KeyPlan.{told_values, added, pooled, Fills};
+ghost use Rattle.resb.specs.Entries.{told_values};
+ghost use Rattle.resb.specs.Inside.Pooling.{added, pooled, Fills};
 ghost use Rattle.resb.specs.TreeKeys.{keys_met, item_keys, entry_keys, pool_bytes, key_pool};
 
 use crate::pool::KeyPool;
@@ -102,7 +103,7 @@ fn with_key<'a>(mut pool: KeyPool<'a>, key: &'a [u8]) -> Result<KeyPool<'a>, Res
 }
 
 /// Each key once, in the order in which they are first met.
-#[tactic(auto, unfolding(crate::specs::KeyPlan::pooled))]
+#[tactic(auto, unfolding(crate::specs::Inside::Pooling::pooled))]
 pub fn pool_of<'a>(alloc: Global, met: &[&'a [u8]]) -> Result<KeyPool<'a>, ResbError>
     ensures { Fills (λ (p : KeyPool). bare p.keys.items) result (pooled [] (bare met.now)) }
 {

@@ -1,6 +1,6 @@
 ghost use Rattle.std.specs.Prelude.{◌≡◌, ◌+◌, ◌<◌, ◌≤◌, ◌++◌, nat_le, length, OnOk, IfOk, IfErr};
 ghost use Rattle.resb.specs.Plan.{most_words, Refuses};
-ghost use Rattle.resb.specs.KeyPlan.{no_places};
+ghost use Rattle.resb.specs.Inside.Laying.{no_places};
 ghost use Rattle.resb.specs.LaidTrees.{laid};
 ghost use Rattle.resb_tree.specs.declared.resource.Resource.TheVariants as r;
 

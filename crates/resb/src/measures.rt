@@ -1,6 +1,6 @@
 ghost use Rattle.std.specs.Prelude.{◌≡◌, ◌&&◌, map, IfOk};
 ghost use Rattle.resb_tree.specs.Keys.{keys_in};
-ghost use Rattle.resb.specs.KeyPlan.{values_in};
+ghost use Rattle.resb.specs.Entries.{values_in};
 ghost use Rattle.resb.specs.BadKeys.{is_key, all_keys, any_bad, has_bad_key};
 
 use resb_tree::{Key, Resource, are_distinct};

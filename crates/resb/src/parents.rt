@@ -2,7 +2,7 @@ ghost use Rattle.std.specs.Prelude.{◌≡◌, ℕ, List, ◌+◌, ◌≤◌, []
 ghost use Rattle.resb_tree.specs.Keys.{keys_in};
 ghost use Rattle.resb_tree.specs.declared.resource.Resource.{Resource};
 ghost use Rattle.resb_tree.specs.declared.resource.Resource.TheVariants as r;
-ghost use Rattle.resb.specs.KeyPlan.{values_in};
+ghost use Rattle.resb.specs.Entries.{values_in};
 ghost use Rattle.resb.specs.Plan.{most_words};
 ghost use Rattle.resb.specs.Inside.Laying.{Lays, Stands};
 ghost use Rattle.resb.specs.WrittenFiles.{most_of};

@@ -1,7 +1,6 @@
 ghost use Rattle.std.specs.Prelude.{Vec, ℕ, ◌≡◌, ◌∷◌, [], IfOk, Some};
 ghost use Rattle.std.specs.Global.{Global};
-ghost use Rattle.resb.specs.Inside.Telling.{Tells};
-ghost use Rattle.resb.specs.KeyPlan.{array_of, table_of};
+ghost use Rattle.resb.specs.Inside.Telling.{Tells, array_of, table_of};
 ghost use Rattle.resb.specs.Pool.{bare};
 ghost use Rattle.resb.specs.Writing.{writing, Writes};
 ghost use Rattle.resb_tree.specs.Header.{tree_of};

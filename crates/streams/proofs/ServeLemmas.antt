@@ -72,13 +72,7 @@ none_kept kept e = no_bytes kept (zero_len (length kept) e)
 pub some_kept : (kept : List ℕ) → false ≡ nat_eq (length kept) 0 → 0 < length kept
 some_kept kept e = some_len (length kept) e
 
--- a line of which nothing is kept
-pub replies_whole : (reply : List ℕ → List ℕ → Type 0) (kept bytes text : List ℕ) → kept ≡ [] → reply bytes text → RepliesToEnd reply kept bytes text
-replies_whole reply kept bytes text none is line e =
-    let empty : line ≡ [] = nothing_kept line (sym none ∙ e) in
-    rw empty is
-
--- and one of which something is
+-- a line that goes on behind what is kept
 pub replies_kept : (reply : List ℕ → List ℕ → Type 0) (kept bytes text : List ℕ) → CutsLongLines reply → reply (take 1025 (kept ++ bytes)) text → RepliesToEnd reply kept bytes text
 replies_kept reply kept bytes text cuts is line e =
     let front : take 1025 (kept ++ bytes) ≡ take 1025 (line ++ bytes) = rw e (take_front 1025 line bytes) in

@@ -22,7 +22,8 @@ pub trait Answer {
         replies: &mut String,
     ) -> Result<(), AllocError>
         ensures { OnOk result
-            (Adds (reply self.now line.now) (string_bytes replies.old) (string_bytes replies.new)) }
+            (Adds (reply self.now line.now)
+            (string_bytes replies.old) (string_bytes replies.new)) }
     {
         let text = self.answer(alloc, line)?;
         replies.push_str(text.as_str())?;

@@ -6,7 +6,7 @@ use Rattle.tongues.specs.Units.{unit_size}
 use Rattle.tongues.specs.Speech.{Speech}
 use Rattle.timeago.specs.Settings.{Settings}
 use Rattle.timeago.specs.Counts.{Counts, allowed_unit, lower, higher, biggest, u64_max}
-use Rattle.timeago.specs.Steps.{counted, next_told}
+use Rattle.timeago.specs.Inside.Steps.{counted, next_told}
 use Rattle.timeago.specs.Words.{IsWords, told_text}
 use Rattle.tongues.specs.declared.unit.TimeUnit.{TimeUnit}
 use Rattle.tongues.specs.declared.unit.TimeUnit.TheVariants as u

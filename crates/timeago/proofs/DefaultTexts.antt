@@ -10,7 +10,7 @@ use Rattle.timeago.specs.Settings.{Settings, default_settings, ahead_settings}
 use Rattle.timeago.specs.Counts.{Counts, allowed_unit, biggest, lower, higher, u64_max}
 use Rattle.timeago.specs.Words.{IsWords, told_text}
 use Rattle.timeago.specs.Laws.{OneCountList, OneText, DefaultTexts, IsOneCount, counted_text}
-use Rattle.timeago.specs.Steps.{counted}
+use Rattle.timeago.specs.Inside.Steps.{counted}
 use Rattle.timeago.proofs.CountLists.{counted_is, counts_once, words_once, least_told}
 use Rattle.timeago.proofs.Texts.{words_if, high_if}
 use Rattle.tongues.specs.declared.unit.TimeUnit.{TimeUnit}

@@ -1,10 +1,6 @@
 -- A text that is appended to keeps what it held.
-use Rattle.std.proofs.Common.{◌≡◌, ℕ, List, [], ◌++◌, sym, ◌∙◌, ap, append_assoc}
-use Rattle.std.proofs.lemmas.List.{append-nil}
+use Rattle.std.proofs.Common.{◌≡◌, ℕ, List, ◌++◌, ◌∙◌, ap, append_assoc}
 use Rattle.timeago.specs.Appended.{Keeps}
-
-pub kept_same : (a b : List ℕ) → b ≡ a → Keeps a b
-kept_same a b e = record { added = []; is = e ∙ sym (append-nil a) }
 
 pub kept_added : (a b x : List ℕ) → b ≡ a ++ x → Keeps a b
 kept_added a b x e = record { added = x; is = e }

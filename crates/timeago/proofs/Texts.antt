@@ -8,7 +8,7 @@ use Rattle.tongues.specs.Speech.{Speech}
 use Rattle.timeago.specs.Settings.{Settings}
 use Rattle.timeago.specs.Counts.{Counts, allowed_unit}
 use Rattle.timeago.specs.Words.{IsWords, told_text, with_past, joined, chunk}
-use Rattle.timeago.specs.Steps.{counted, next_told, count_in, chunks, before_chunk, past_before, past_behind, tells_nothing}
+use Rattle.timeago.specs.Inside.Steps.{counted, next_told, count_in, chunks, before_chunk, past_before, past_behind, tells_nothing}
 use Rattle.timeago.proofs.CountLists.{counted_is, counts_once}
 use Rattle.tongues.specs.declared.unit.TimeUnit.{TimeUnit}
 

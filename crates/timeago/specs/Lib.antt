@@ -5,7 +5,7 @@ pub mod Words
 pub mod Within
 pub mod Appended
 pub mod FiveChars
-pub mod Steps
+pub mod Inside
 pub mod Codes
 pub mod Styles
 pub mod Laws

@@ -8,7 +8,7 @@ ghost use Rattle.timeago.specs.Counts.{allowed_unit, lower, higher};
 ghost use Rattle.timeago.specs.Words.{IsWords, chunk, none_text, told_text};
 ghost use Rattle.timeago.specs.Within.{TellsWithin};
 ghost use Rattle.timeago.specs.Appended.{Adds, Keeps};
-ghost use Rattle.timeago.specs.Steps.{counted, tells_nothing, before_chunk, chunks, past_before, past_behind};
+ghost use Rattle.timeago.specs.Inside.Steps.{counted, tells_nothing, before_chunk, chunks, past_before, past_behind};
 ghost use Rattle.timeago.specs.Formatters.{settings_of, language_of};
 
 use crate::pieces::{push_between, push_count, push_no_count};
@@ -74,7 +74,8 @@ impl<L: Language> Formatter<L> {
     pub fn max_unit(&mut self, x: TimeUnit) -> &mut Self
         ensures same { result.ghost_name ≡ self.entry.ghost_name }
         ensures language { language_of result.now ≡ language_of self.old }
-        ensures settings { settings_of result.now ≡ record (settings_of self.old) { max_unit = x } }
+        ensures settings { settings_of result.now
+            ≡ record (settings_of self.old) { max_unit = x } }
     {
         self.max_unit = x;
         self
@@ -84,7 +85,8 @@ impl<L: Language> Formatter<L> {
     pub fn min_unit(&mut self, x: TimeUnit) -> &mut Self
         ensures same { result.ghost_name ≡ self.entry.ghost_name }
         ensures language { language_of result.now ≡ language_of self.old }
-        ensures settings { settings_of result.now ≡ record (settings_of self.old) { min_unit = x } }
+        ensures settings { settings_of result.now
+            ≡ record (settings_of self.old) { min_unit = x } }
     {
         self.min_unit = x;
         self

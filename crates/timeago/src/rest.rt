@@ -2,7 +2,7 @@ ghost use Rattle.std.specs.Prelude.{◌≡◌, ℕ, ◌+◌, ◌-◌, ◌*◌, �
 ghost use Rattle.std.specs.Duration.{as_nanos};
 ghost use Rattle.tongues.specs.Units.{unit_size};
 ghost use Rattle.timeago.specs.Counts.{biggest};
-ghost use Rattle.timeago.specs.Steps.{count_in};
+ghost use Rattle.timeago.specs.Inside.Steps.{count_in};
 
 use std::marker::Model;
 use std::time::Duration;

@@ -1,5 +1,6 @@
 -- An entry that lies days from the one before it keeps the laws, if its offsets, its part and the end of the table allow it.
-use Rattle.std.proofs.Common.{◌≡◌, ℕ, zero, suc, ◌+◌, ◌<◌, ◌≤◌, nat_lt, nat_le, List, All, get_or, length, slice_get, Option, Some, None, IfSome, option_map, add-one, refl, sym, subst, ◌∙◌, ℤ, pos, ◌+ℤ◌, ◌<ℤ◌, arith}
+use Rattle.std.proofs.Common.{◌≡◌, ℕ, zero, suc, ◌+◌, ◌<◌, ◌≤◌, nat_lt, nat_le, List, All, get_or, length, slice_get, Option, Some, None, IfSome, option_map, add-one, refl, sym, subst, ◌∙◌, ℤ, pos, ◌+ℤ◌, arith}
+use Rattle.std.proofs.lemmas.Option.{same_Some}
 use Rattle.std.proofs.lemmas.Int.{ints, clamps}
 use Rattle.std.proofs.lemmas.Bool.Decides.{nat_tests}
 use Rattle.std.proofs.lemmas.Option.{slice_get_within}
@@ -15,11 +16,9 @@ use Rattle.timeline.specs.Inside.CheckSteps.{AreNear, AreWalled, EndBefore, InPa
 use Rattle.timeline.specs.Inside.Apart.{IsApart, AreSmall}
 use Rattle.timeline.proofs.LeastFaults.{all_kept}
 use Rattle.timeline.proofs.CheckLaws.{since_read}
+use Rattle.timeline.proofs.CheckWhole.{Rising}
 use Rattle.timeline.proofs.TimelineEntries.{is_there}
 use Rattle.timeline.proofs.TableEntries.{length-table_from, table_from-at, pair_is}
-
-injective : {A : Type 0} (x y : A) → Some x ≡ Some y → x ≡ y
-injective x y e = cc
 
 -- what holds before an entry is small too
 small_before : (z : PlainZone) (n : ℕ) → AreSmall z → IsSmall (table_before z.initial z.table n).offset
@@ -42,9 +41,6 @@ pair_at R initial table (suc n) e law = by (slice_get table n) refl
     by (Some a) h =
         let P : Option Transition → Type 0 = λ o. IfSome (option_map (table_walls initial table n) o) (λ p. R p (table_walls initial table (suc n) e)) in
         subst P (sym h) (law n a (add-one n) h)
-
-abbrev Rising : checked.Walls → checked.Walls → Type 0
-Rising p q = p.since <ℤ q.since
 
 -- the nth entry keeps all laws, if its second lies in its part and far from the one before it and from the limit
 pub entry_shown : (z : PlainZone) (limit : Option ℤ) (n : ℕ) (previous second : ℤ) → IsSecondBefore z.table n previous → IsSecondAt z.table n second
@@ -120,7 +116,7 @@ small_entry pairs seconds numbers entries small n e get =
     let s = is_there seconds n within in
     let k = get_or numbers n 0 in
     let known : k < length pairs = entries.known n 0 (let len = entries.len in omega (arith, within, len)) in
-    let is : transition_to (pair_of_number pairs k) s.0 ≡ e = injective _ e (sym (table_from-at pairs seconds numbers n s.0 entries.len s.1) ∙ get) in
+    let is : transition_to (pair_of_number pairs k) s.0 ≡ e = same_Some _ e (sym (table_from-at pairs seconds numbers n s.0 entries.len s.1) ∙ get) in
     let P : Transition → Type 0 = λ t. IsSmall t.offset in
     subst P is (small_pair pairs k small known)
 

@@ -13,7 +13,7 @@ use Rattle.timeline.specs.Laws.{IsLawful, EndsBefore}
 use Rattle.timeline.specs.Neighbours.{Step, IsNear}
 use Rattle.timeline.specs.WallPromises.{IsOfYear, IsRuleEntry, HasTwoCandidates}
 use Rattle.timeline.proofs.ChainWalls.{IsBehind, IsAhead, Stretches, not_behind, not_ahead}
-use Rattle.timeline.proofs.TimelineEntries.{Stands, in_table, is_first, is_second, stands, is_there, table_entry, before_next}
+use Rattle.timeline.proofs.TimelineEntries.{Stands, in_table, is_first, is_second, stands, is_there, before_next, table_at}
 use Rattle.timeline.proofs.TimelineRises.{if_some, neighbours, step_of, same_rule}
 use Rattle.timeline.proofs.Years.{years_rise}
 use Rattle.timeline.proofs.TimelineYears.{years_from, rule_of, StartsFrom, ends_before, starts_from}
@@ -91,14 +91,11 @@ behind_next w a b near le = record { old = omega (arith, ints, near.old, le); ne
 ahead_of_last : (w : ℤ) (a b : Step) → IsNear a b → w <ℤ a.since → IsAhead w b
 ahead_of_last w a b near lt = record { old = omega (arith, ints, near.to_old, lt); new = omega (arith, ints, near.to_new, lt) }
 
-timeline_at : (z : PlainZone) (n : ℕ) (e : Transition) → slice_get z.table n ≡ Some e → entry_at z n ≡ Some e
-timeline_at z n e at = table_entry z n (slice_get_within z.table n e at) ∙ at
-
 -- the table's entries before the last one that is not after w are behind w
 pub table_behind : (z : PlainZone) (w : ℤ) (k n : ℕ) (e : Transition) → IsLawful z → IsTablePlace z w k → slice_get z.table n ≡ Some e → suc n < k → IsBehind w (step_of z n e)
 table_behind z w k n e lawful place at lt =
     let next = is_there z.table (suc n) (let within = place.within in omega arith) in
-    let follow = (neighbours z n e next.0 lawful (timeline_at z n e at) (timeline_at z (suc n) next.0 next.1)).follows in
+    let follow = (neighbours z n e next.0 lawful (table_at z n e at) (table_at z (suc n) next.0 next.1)).follows in
     behind_next w _ _ follow.near (place.passed (suc n) next.0 next.1 lt)
 
 -- and those after the next one are ahead of it
@@ -106,8 +103,8 @@ pub table_ahead : (z : PlainZone) (w : ℤ) (k n : ℕ) (e : Transition) → IsL
 table_ahead z w k zero e lawful place at lt = absurd (omega arith)
 table_ahead z w k (suc m) e lawful place at lt =
     let last = is_there z.table m (omega (arith, slice_get_within z.table (suc m) e at)) in
-    let at_last = timeline_at z m last.0 last.1 in
-    let follow = (neighbours z m last.0 e lawful at_last (timeline_at z (suc m) e at)).follows in
+    let at_last = table_at z m last.0 last.1 in
+    let follow = (neighbours z m last.0 e lawful at_last (table_at z (suc m) e at)).follows in
     let ahead = ahead_of_last w _ _ follow.near (place.ahead m last.0 last.1 (omega arith)) in
     rw (before_next z m last.0 at_last) ahead
 

@@ -2,7 +2,7 @@
 use Rattle.std.proofs.Common.{◌≡◌, ℕ, zero, suc, ◌<◌, ◌≤◌, ◌⊎◌, inl, inr, refl, ℤ, ◌<ℤ◌, ◌≤ℤ◌, arith}
 use Rattle.std.proofs.lemmas.Int.{ints}
 use Rattle.timeline.specs.Neighbours.{Step, IsNear, IsWalled}
-use Rattle.timeline.proofs.Entries.{below_or_not}
+use Rattle.timeline.proofs.Entries.{below_or_not, last_or_before}
 
 -- before the nth transition `offset n` holds, and from its second on `offset (suc n)`
 abbrev pub step_at : (ℕ → ℤ) → (ℕ → ℤ) → ℕ → Step
@@ -20,9 +20,6 @@ pub record IsChain (count : ℕ) (since offset : ℕ → ℤ) : Type 0 where
   pub follows : (n : ℕ) → suc n < count → Follows (step_at since offset n) (step_at since offset (suc n))
 
 -- ---- order
-
-pub last_or_before : (m n : ℕ) → m < suc n → (m < n) ⊎ (m ≡ n)
-last_or_before m n h = grind arith
 
 pub rises : {count : ℕ} {since offset : ℕ → ℤ} → IsChain count since offset → (m n : ℕ) → m ≤ n → n < count → since m ≤ℤ since n
 rises chain m zero le lt = let same : m ≡ zero = omega arith in rw same (omega (arith, ints))
@@ -118,16 +115,3 @@ place_of {count = count} {since = since} chain t =
 
     by : (k : ℕ) × Stops (λ m. since m ≤ℤ t) (λ m. t <ℤ since m) count k → (k : ℕ) × IsAt count since t k
     by found = (found.0, is_at chain t found.0 found.1.within (λ j last. found.1.passed j (omega arith)) found.1.stop)
-
-not_past : {count : ℕ} {since : ℕ → ℤ} {t : ℤ} (k l : ℕ) → IsAt count since t k → IsAt count since t l → k < l → ⊥
-not_past k l at_k at_l lt =
-    let within = at_l.within in
-    let before = at_l.passed k lt in
-    let after = at_k.ahead k (omega arith) (omega arith) in
-    omega (arith, ints, before, after)
-
-pub one_place : {count : ℕ} {since : ℕ → ℤ} {t : ℤ} (k l : ℕ) → IsAt count since t k → IsAt count since t l → k ≡ l
-one_place k l at_k at_l =
-    let no = not_past k l at_k at_l in
-    let not = not_past l k at_l at_k in
-    omega (arith, no, not)

@@ -3,8 +3,8 @@ use Rattle.std.proofs.Common.{◌≡◌, ℕ, zero, suc, ◌<◌, ◌≤◌, ◌
 use Rattle.std.proofs.lemmas.Int.{ints}
 use Rattle.std.proofs.lemmas.Bool.{cases_lt}
 use Rattle.timeline.specs.Neighbours.{Step, old_wall, new_wall, IsWalled}
-use Rattle.timeline.proofs.Entries.{below_or_not}
-use Rattle.timeline.proofs.Chain.{IsChain, IsAt, Stops, step_at, last_or_before, is_at, stops, walled}
+use Rattle.timeline.proofs.Entries.{below_or_not, last_or_before}
+use Rattle.timeline.proofs.Chain.{IsChain, IsAt, Stops, step_at, is_at, stops, walled}
 
 -- neither wall is after w
 pub record IsBehind (w : ℤ) (s : Step) : Type 0 where

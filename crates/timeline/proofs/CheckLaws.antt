@@ -1,5 +1,6 @@
 -- The laws of a zone, from what its checker tests.
 use Rattle.std.proofs.Common.{◌≡◌, ℕ, suc, ◌+◌, ◌<◌, ◌≤◌, nat_lt, nat_le, Bool, List, length, slice_get, Option, Some, option_map, sym, ap, subst, ◌∙◌, ℤ, ◌+ℤ◌, arith}
+use Rattle.std.proofs.lemmas.Option.{same_Some}
 use Rattle.std.specs.Int.{int_min, int_max}
 use Rattle.std.proofs.lemmas.Int.{ints, clamps}
 use Rattle.std.proofs.lemmas.Option.{slice_get_within}
@@ -71,15 +72,12 @@ lies-back low high s h = record {
 
 -- ---- the table
 
-injective : {A : Type 0} (x y : A) → Some x ≡ Some y → x ≡ y
-injective x y e = cc
-
 -- what was read of an entry
 pub since_read : (table : List Transition) (n : ℕ) (s : ℤ) (e : Transition) → IsSecondAt table n s → slice_get table n ≡ Some e → e.since ≡ s
-since_read table n s e read get = injective e.since s (sym (ap (option_map (λ (e : Transition). e.since)) get) ∙ read)
+since_read table n s e read get = same_Some e.since s (sym (ap (option_map (λ (e : Transition). e.since)) get) ∙ read)
 
 pub offset_read : (table : List Transition) (n : ℕ) (o : Offset) (e : Transition) → option_map offset_of (slice_get table n) ≡ Some o → slice_get table n ≡ Some e → o.offset ≡ e.offset
-offset_read table n o e read get = ap (λ (x : Offset). x.offset) (injective o (offset_of e) (sym read ∙ ap (option_map offset_of) get))
+offset_read table n o e read get = ap (λ (x : Offset). x.offset) (same_Some o (offset_of e) (sym read ∙ ap (option_map offset_of) get))
 
 -- the walls of the entry before the nth one
 pub walls_before-is : (before_all : Offset) (table : List Transition) (n k : ℕ) (w : Walls) → n ≡ suc k → k < length table
@@ -105,7 +103,7 @@ entry_told before_all table early late n limit entry e l previous w after r get 
     tells-same (EntryKeeps (nat_lt n early) (nat_le (length table) (n + late)) (walls_before before_all table n) (table_walls before_all table n entry) entry.offset limit)
     (λ f. KeepsAt before_all table early late limit f n) r
     (λ f kept other got. let Q : Transition → Type 0 = λ x. EntryKeeps (nat_lt n early) (nat_le (length table) (n + late)) (walls_before before_all table n) (table_walls before_all table n x) x.offset limit f in
-    subst Q (injective entry other (sym get ∙ got)) kept)
+    subst Q (same_Some entry other (sym get ∙ got)) kept)
     (λ f all. all entry get) told
 
 -- the second of an entry is the one before that of the next

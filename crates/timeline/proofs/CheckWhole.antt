@@ -90,7 +90,7 @@ parts_back z limit k = record {
   late = λ n e get h. (k n e get).in_late (late_test (length z.table) (n + z.late) h);
 }
 
-abbrev Rising : checked.Walls → checked.Walls → Type 0
+abbrev pub Rising : checked.Walls → checked.Walls → Type 0
 Rising p q = p.since <ℤ q.since
 
 order_there : (z : PlainZone) (limit : Option ℤ) → KeepsOrder z → T z limit Order

@@ -1,5 +1,5 @@
 -- The years of a rule by their kinds: what one year of each kind keeps, all years keep.
-use Rattle.std.proofs.Common.{◌≡◌, ℕ, ◌<◌, ◌≤◌, Bool, true, false, Ok, refl, sym, subst, ◌∙◌, ℤ, pos, ◌+ℤ◌, ◌-ℤ◌, ◌*ℤ◌, ◌≤ℤ◌, cond, arith}
+use Rattle.std.proofs.Common.{◌≡◌, ℕ, ◌<◌, ◌≤◌, Bool, true, false, refl, sym, subst, ◌∙◌, ℤ, pos, ◌+ℤ◌, ◌-ℤ◌, ◌*ℤ◌, ◌≤ℤ◌, cond, arith}
 use Rattle.std.proofs.lemmas.Int.{ints}
 use Rattle.std.proofs.lemmas.Bool.Decides.{nat_tests}
 use Rattle.civil.specs.Calendar.{is_leap_year, days_in_year, year_kind, year_second, example_year}
@@ -9,7 +9,7 @@ use Rattle.timeline.specs.declared.fault.ZoneFault.{ZoneFault}
 use Rattle.timeline.specs.declared.fault.ZoneFault.TheVariants.{Parts, Order, Size, Near, Walls, Seam, Before, Year}
 use Rattle.timeline.specs.declared.check.Walls as checked
 use Rattle.timeline.specs.Zone.{PlainRule}
-use Rattle.timeline.specs.Rule.{start_entry, end_entry, start_is_first, first_entry, second_entry}
+use Rattle.timeline.specs.Rule.{first_entry, second_entry}
 use Rattle.timeline.specs.Timeline.{offset_of}
 use Rattle.timeline.specs.Neighbours.{Step, step, IsNear, IsWalled}
 use Rattle.timeline.specs.Laws.{LiesIn}
@@ -148,11 +148,3 @@ years_told counts kinds examples r t high h =
     let z = kinds.occur r.first_year m less in
     year_keeps-same counts r z.0 (example_year m) (z.3 ∙ sym (examples m less)) f (all z.0 z.1 (omega (arith, ints, z.2, high))))
     h
-
--- before the first kind nothing is asked
-pub no_year_told : (r : PlainRule) → TellsLeast (λ f. (m : ℕ) → m < 0 → YearKeeps r (example_year m) f) (Ok tt)
-no_year_told r = λ f m less. absurd (omega (arith, less))
-
--- the offset before a year's first transition is that of every year
-pub before_same : (r : PlainRule) (y z : ℤ) → offset_of (second_entry r y) ≡ offset_of (second_entry r z)
-before_same r y z = elim (start_is_first r) as (λ b. offset_of (cond b (end_entry r y) (start_entry r y)) ≡ offset_of (cond b (end_entry r z) (start_entry r z))) [ true ↦ refl | false ↦ refl ]

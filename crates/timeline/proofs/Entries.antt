@@ -31,8 +31,8 @@ pub some_or_none : {A : Type 0} (o : Option A) → (o ≡ None) ⊎ ((x : A) × 
 some_or_none None = inl refl
 some_or_none (Some x) = inr (x, refl)
 
-split : (m n : ℕ) → m < suc n → (m < n) ⊎ (m ≡ n)
-split m n lt = grind arith
+pub last_or_before : (m n : ℕ) → m < suc n → (m < n) ⊎ (m ≡ n)
+last_or_before m n lt = grind arith
 
 -- ---- where entries end
 
@@ -82,12 +82,12 @@ SomeHolds z t n o =
 
 -- where the nth entry is after t, nothing changes
 keeps : (z : PlainZone) (t : ℤ) (n : ℕ) (o : Offset) → ((f : Transition) → entry_at z n ≡ Some f → t <ℤ f.since) → SomeHolds z t n o → SomeHolds z t (suc n) o
-keeps z t n o after (inl h) = inl ((λ m f at lt. by m f at (split m n lt)), h.1)
+keeps z t n o after (inl h) = inl ((λ m f at lt. by m f at (last_or_before m n lt)), h.1)
   where
     by : (m : ℕ) (f : Transition) → entry_at z m ≡ Some f → (m < n) ⊎ (m ≡ n) → t <ℤ f.since
     by m f at (inl lt) = h.0 m f at lt
     by m f at (inr same) = after f (ap (entry_at z) (sym same) ∙ at)
-keeps z t n o after (inr h) = inr (h.0, h.1, h.2, h.3, h.4, λ m f at lt le. by m f at le (split m n lt))
+keeps z t n o after (inr h) = inr (h.0, h.1, h.2, h.3, h.4, λ m f at lt le. by m f at le (last_or_before m n lt))
   where
     by : (m : ℕ) (f : Transition) → entry_at z m ≡ Some f → f.since ≤ℤ t → (m < n) ⊎ (m ≡ n) → m ≤ h.0
     by m f at le (inl lt) = h.5 m f at lt le

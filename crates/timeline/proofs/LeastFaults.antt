@@ -55,32 +55,6 @@ all_kept K a b c d e f g h Before = g
 all_kept K a b c d e f g h Year = h
 
 -- a law is broken, and those before it, which are given, are kept
-pub parts_broken : (K : ZoneFault → Type 0) → (K Parts → ⊥) → TellsLeast K (Err Parts)
-parts_broken K broken = (broken, by)
-  where
-    by : (g : ZoneFault) → fault_number g < 1 → K g
-    by Parts less = absurd (omega arith)
-    by Order less = absurd (omega arith)
-    by Size less = absurd (omega arith)
-    by Near less = absurd (omega arith)
-    by Walls less = absurd (omega arith)
-    by Seam less = absurd (omega arith)
-    by Before less = absurd (omega arith)
-    by Year less = absurd (omega arith)
-
-pub order_broken : (K : ZoneFault → Type 0) → K Parts → (K Order → ⊥) → TellsLeast K (Err Order)
-order_broken K a broken = (broken, by a)
-  where
-    by : K Parts → (g : ZoneFault) → fault_number g < 2 → K g
-    by a Parts less = a
-    by a Order less = absurd (omega arith)
-    by a Size less = absurd (omega arith)
-    by a Near less = absurd (omega arith)
-    by a Walls less = absurd (omega arith)
-    by a Seam less = absurd (omega arith)
-    by a Before less = absurd (omega arith)
-    by a Year less = absurd (omega arith)
-
 pub size_broken : (K : ZoneFault → Type 0) → K Parts → K Order → (K Size → ⊥) → TellsLeast K (Err Size)
 size_broken K a b broken = (broken, by a b)
   where

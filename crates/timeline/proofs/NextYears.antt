@@ -16,7 +16,7 @@ use Rattle.timeline.specs.Inside.YearEntries.{entries_in, rule_entries_in}
 use Rattle.timeline.specs.Transitions.{Counts}
 use Rattle.timeline.specs.Inside.TransitionSteps.{FirstIn, FirstFrom, LastBelow, IsYearOf, year_place, is_idle, first_of_year, last_of_year}
 use Rattle.timeline.proofs.Entries.{below_or_not}
-use Rattle.timeline.proofs.TimelineEntries.{IsRuleYear, Stands, in_table, is_first, is_second, stands, table_entry, first_at, second_at, same_second}
+use Rattle.timeline.proofs.TimelineEntries.{IsRuleYear, Stands, in_table, is_first, is_second, stands, first_at, second_at, same_second, table_at}
 use Rattle.timeline.proofs.TimelineRises.{before_first, before_second, same_rule}
 use Rattle.timeline.proofs.YearEntries.{says_table, says_rule, says_past}
 
@@ -47,9 +47,6 @@ not_counted z change n o e f before at idle counts =
     counts.changes so.0 (ap (λ (o : Offset). o.offset) (sym before) ∙ so.1 ∙ ap (λ (e : Transition). e.offset) (sym same))
 
 -- a search of the table comes to one that counts, or goes on
-table_at : (z : PlainZone) (n : ℕ) (e : Transition) → slice_get z.table n ≡ Some e → entry_at z n ≡ Some e
-table_at z n e at = table_entry z n (slice_get_within z.table n e at) ∙ at
-
 pub first_here : (z : PlainZone) (change : Bool) (from n : ℕ) (o : Offset) (e : Transition) → o ≡ before_entry z n → slice_get z.table n ≡ Some e → is_idle change o e ≡ false → from ≤ n
     → ((m : ℕ) (f : Transition) → from ≤ m → m < n → Counts z change m f → ⊥) → FirstIn z change from (length z.table) (Some e)
 first_here z change from n o e before at moves low none = (
@@ -80,9 +77,6 @@ last_here z change to n o e before at moves high none = (
     by : (m : ℕ) (f : Transition) → m < to → Counts z change m f → (n < m) ⊎ (m ≤ n) → m ≤ n
     by m f lt counts (inl past) = absurd (none m f (omega arith) lt counts)
     by m f lt counts (inr le) = le
-
-pub not_here : (z : PlainZone) (change : Bool) (n m : ℕ) (o : Offset) (e f : Transition) → m ≡ n → o ≡ before_entry z n → slice_get z.table n ≡ Some e → is_idle change o e ≡ true → Counts z change m f → ⊥
-not_here z change n m o e f same before at idle counts = not_counted z change n o e f before (table_at z n e at) idle (rw same at counts)
 
 -- ---- a rule whose transitions make no change
 

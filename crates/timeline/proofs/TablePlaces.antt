@@ -8,8 +8,8 @@ use Rattle.timeline.specs.declared.offset.Transition.{Transition}
 use Rattle.timeline.specs.Zone.{PlainZone}
 use Rattle.timeline.specs.Timeline.{table_place}
 use Rattle.timeline.specs.TableLaws.{KeepsOrder}
-use Rattle.timeline.proofs.Entries.{below_or_not}
-use Rattle.timeline.proofs.Chain.{Stops, stops, last_or_before}
+use Rattle.timeline.proofs.Entries.{below_or_not, last_or_before}
+use Rattle.timeline.proofs.Chain.{Stops, stops}
 use Rattle.timeline.proofs.TimelineEntries.{is_there, table_entry}
 use Rattle.timeline.proofs.TimelineRises.{entry_since, since_is}
 

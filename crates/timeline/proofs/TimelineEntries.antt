@@ -3,7 +3,7 @@ use Rattle.std.proofs.Common.{◌≡◌, ℕ, suc, ◌+◌, ◌-◌, ◌*◌, �
 use Rattle.std.specs.Prelude.{int_lt, slice_get}
 use Rattle.std.proofs.lemmas.Int.{ints}
 use Rattle.std.proofs.lemmas.Bool.{ltb-true, ltb-false, lt-ltb, le-ltb, eq-eqb, ne_eqb, cases_lt}
-use Rattle.std.proofs.lemmas.Option.{slice_get_cases}
+use Rattle.std.proofs.lemmas.Option.{slice_get_cases, slice_get_within}
 use borrow.Author.Differences.{up}
 use Rattle.timeline.specs.declared.offset.Transition.{Transition}
 use Rattle.timeline.specs.Zone.{PlainZone, PlainRule}
@@ -74,6 +74,10 @@ stands z n e at = by (nat_lt n (length z.table)) refl
 
 pub table_entry : (z : PlainZone) (n : ℕ) → n < length z.table → entry_at z n ≡ slice_get z.table n
 table_entry z n lt = below_table z n (lt-ltb _ _ lt)
+
+-- the one of a place in the table is that of the table
+pub table_at : (z : PlainZone) (n : ℕ) (e : Transition) → slice_get z.table n ≡ Some e → entry_at z n ≡ Some e
+table_at z n e at = table_entry z n (slice_get_within z.table n e at) ∙ at
 
 rule_place : (z : PlainZone) (r : PlainRule) (n m : ℕ) → z.rule ≡ Some r → n ≡ length z.table + m → entry_at z n ≡ rule_entry (Some r) m
 rule_place z r n m is place =

@@ -451,7 +451,8 @@ fn rule_fault<L: Ledger>(
     last: Offset,
     steps: &mut Steps<L>,
 ) -> Result<(), ZoneFault>
-    ensures value { (r : PlainRule) → rule.now ≡ kept_rule r → TellsLeast (RuleKeeps r last) result }
+    ensures value { (r : PlainRule) → rule.now ≡ kept_rule r
+        → TellsLeast (RuleKeeps r last) result }
     ensures ticks { steps.new ≤ steps.old + 1 }
 {
     let (raw, sum) = rule.offsets();

@@ -224,7 +224,8 @@ impl ZoneData {
     ) -> PossibleOffset
         requires { IsDateTime year month day hour minute second }
         ensures answers { IsLawful self.now
-            → AnswersWall self.now (wall_second (day_of year month day) hour minute second) result }
+            → AnswersWall self.now
+            (wall_second (day_of year month day) hour minute second) result }
         ensures placed { IsLawful self.now
             → IsPlaced self.now (wall_second (day_of year month day) hour minute second)
             (wall_second (day_of year month day) hour minute second -ℤ (placing result).offset) }

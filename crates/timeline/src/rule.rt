@@ -294,7 +294,8 @@ impl YearRule {
         ensures before { (r : PlainRule) → self.now ≡ kept_rule r
             → result.0 ≡ offset_of (second_entry r year) }
         ensures first { (r : PlainRule) → self.now ≡ kept_rule r → result.1 ≡ first_entry r year }
-        ensures second { (r : PlainRule) → self.now ≡ kept_rule r → result.2 ≡ second_entry r year }
+        ensures second { (r : PlainRule) → self.now ≡ kept_rule r
+            → result.2 ≡ second_entry r year }
         ensures ticks { steps.new ≡ steps.old + 1 }
     {
         steps.tick();

@@ -1,7 +1,8 @@
 -- The text of an offset, by its sign and its size.
 use Rattle.std.proofs.Common.{◌≡◌, ◌≢◌, ℕ, ◌/◌, ◌%◌, List, ◌∷◌, ◌++◌, true, false, ℤ, unsigned_abs, eqb, eq-eqb, refl, arith}
 use Rattle.std.specs.Fmt.{decimal}
-use Rattle.zoned.specs.Texts.{offset_sign, offset_text, two_digits}
+use Rattle.civil.specs.Dates.{two_digits}
+use Rattle.zoned.specs.Texts.{offset_sign, offset_text}
 
 pub short_text : (sign : List ℕ) (n : ℕ) (z : ℤ) → sign ≡ offset_sign z → n ≡ unsigned_abs z → n % 60 ≡ 0
     → sign ++ two_digits (n / 3600) (58 ∷ (decimal (n / 60 % 60 / 10) ++ decimal (n / 60 % 60 % 10))) ≡ offset_text z

@@ -1,14 +1,11 @@
 -- How an offset is written: +hh:mm, and :ss where it has seconds (docs/ZONES.md, "Zones of `zoned`").
 use Rattle.std.specs.Prelude.{ℕ, ◌/◌, ◌%◌, ◌==◌, List, ◌∷◌, ◌++◌, codes, if◌then◌else◌, ℤ, pos, int_lt, unsigned_abs}
 use Rattle.std.specs.Fmt.{decimal}
+use Rattle.civil.specs.Dates.{two_digits}
 
 -- a minus below 0, and else a plus
 abbrev pub offset_sign : ℤ → List ℕ
 offset_sign seconds = if int_lt seconds (pos 0) then codes "-" else codes "+"
-
--- two digits of a number below 100, and a text behind them
-abbrev pub two_digits : ℕ → List ℕ → List ℕ
-two_digits n more = decimal (n / 10) ++ (decimal (n % 10) ++ more)
 
 -- the hours, a colon and the minutes; then a colon and the seconds, where there are any
 abbrev pub clock_text : ℕ → List ℕ

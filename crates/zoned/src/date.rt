@@ -107,7 +107,8 @@ impl<Tz: TimeZone> Date<Tz> {
     /// The day moved by the whole days of a length of time, cut towards zero, with the same offset; `None` exactly past an
     /// end of the calendar. 2000-01-01 and 5 days and 23 hours are 2000-01-06.
     pub fn checked_add_signed(self, rhs: TimeDelta) -> Option<Date<Tz>>
-        ensures some { IsSome result ↔ IsDay (day_number self +ℤ int_div rhs (pos 86400000000000)) }
+        ensures some { IsSome result
+            ↔ IsDay (day_number self +ℤ int_div rhs (pos 86400000000000)) }
         ensures day { IfSome result
             (λ d. day_number d ≡ day_number self +ℤ int_div rhs (pos 86400000000000)) }
         ensures offset { IfSome result (λ d. date_offset d ≡ date_offset self) }
@@ -119,7 +120,8 @@ impl<Tz: TimeZone> Date<Tz> {
     /// The day moved back by the whole days of a length of time, cut towards zero, with the same offset; `None` exactly past
     /// an end of the calendar.
     pub fn checked_sub_signed(self, rhs: TimeDelta) -> Option<Date<Tz>>
-        ensures some { IsSome result ↔ IsDay (day_number self -ℤ int_div rhs (pos 86400000000000)) }
+        ensures some { IsSome result
+            ↔ IsDay (day_number self -ℤ int_div rhs (pos 86400000000000)) }
         ensures day { IfSome result
             (λ d. day_number d ≡ day_number self -ℤ int_div rhs (pos 86400000000000)) }
         ensures offset { IfSome result (λ d. date_offset d ≡ date_offset self) }

@@ -17,7 +17,8 @@ impl<Tz: TimeZone> Add<TimeDelta> for Date<Tz> {
 
     ghost can_add = { λ d n. IsDay (day_number d +ℤ int_div n (pos 86400000000000)) };
 
-    ghost add_gives = { λ d n r. (day_number r ≡ day_number d +ℤ int_div n (pos 86400000000000))
+    ghost add_gives = { λ d n r.
+        (day_number r ≡ day_number d +ℤ int_div n (pos 86400000000000))
         × (date_offset r ≡ date_offset d) };
 
     fn add(self, rhs: TimeDelta) -> Date<Tz> {
@@ -31,7 +32,8 @@ impl<Tz: TimeZone> AddAssign<TimeDelta> for Date<Tz> {
 
     ghost can_add_assign = { λ d n. IsDay (day_number d +ℤ int_div n (pos 86400000000000)) };
 
-    ghost add_assign_gives = { λ d n r. (day_number r ≡ day_number d +ℤ int_div n (pos 86400000000000))
+    ghost add_assign_gives = { λ d n r.
+        (day_number r ≡ day_number d +ℤ int_div n (pos 86400000000000))
         × (date_offset r ≡ date_offset d) };
 
     fn add_assign(&mut self, rhs: TimeDelta) {
@@ -47,7 +49,8 @@ impl<Tz: TimeZone> Sub<TimeDelta> for Date<Tz> {
 
     ghost can_sub = { λ d n. IsDay (day_number d -ℤ int_div n (pos 86400000000000)) };
 
-    ghost sub_gives = { λ d n r. (day_number r ≡ day_number d -ℤ int_div n (pos 86400000000000))
+    ghost sub_gives = { λ d n r.
+        (day_number r ≡ day_number d -ℤ int_div n (pos 86400000000000))
         × (date_offset r ≡ date_offset d) };
 
     fn sub(self, rhs: TimeDelta) -> Date<Tz> {
@@ -61,7 +64,8 @@ impl<Tz: TimeZone> SubAssign<TimeDelta> for Date<Tz> {
 
     ghost can_sub_assign = { λ d n. IsDay (day_number d -ℤ int_div n (pos 86400000000000)) };
 
-    ghost sub_assign_gives = { λ d n r. (day_number r ≡ day_number d -ℤ int_div n (pos 86400000000000))
+    ghost sub_assign_gives = { λ d n r.
+        (day_number r ≡ day_number d -ℤ int_div n (pos 86400000000000))
         × (date_offset r ≡ date_offset d) };
 
     fn sub_assign(&mut self, rhs: TimeDelta) {

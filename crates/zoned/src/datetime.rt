@@ -42,7 +42,8 @@ impl DateTime<Utc> {
     /// It is `None` exactly in three cases: the second is outside the calendar; the nanoseconds are 2,000,000,000 or more; or
     /// they are 1,000,000,000 or more and the second of the minute is not 59.
     pub fn from_timestamp(secs: i64, nsecs: u32) -> Option<DateTime<Utc>>
-        ensures some { IsSome result ↔ IsWallSecond secs × IsFraction (wall_clock secs % 60) nsecs }
+        ensures some { IsSome result
+            ↔ IsWallSecond secs × IsFraction (wall_clock secs % 60) nsecs }
         ensures second { IfSome result (λ d. second_of d ≡ secs) }
         ensures fraction { IfSome result (λ d. fraction_of d ≡ nsecs) }
     {
@@ -139,7 +140,8 @@ impl<Tz: TimeZone> DateTime<Tz> {
             ↔ IsWallSecond (int_div_euclid (nanos_since_epoch self +ℤ rhs) (pos 1000000000)) }
         ensures moved { IfSome result (λ d. nanos_since_epoch d ≡ nanos_since_epoch self +ℤ rhs) }
         ensures fraction { IfSome result (λ d. fraction_of d < 1000000000) }
-        ensures zone { IfSome result (λ d. Tz.zone_of (offset_of d) ≡ Tz.zone_of (offset_of self)) }
+        ensures zone { IfSome result
+            (λ d. Tz.zone_of (offset_of d) ≡ Tz.zone_of (offset_of self)) }
         ensures offset { Tz.sound (Tz.zone_of (offset_of self))
             → IfSome result
             (λ d. Tz.Offset.seconds (offset_of d)

@@ -5,6 +5,10 @@ use Rattle.resb_tree.specs.declared.resource.Resource.{Resource}
 use Rattle.resb.specs.Plan.{Fits, FitsAll, Refuses}
 use Rattle.resb.specs.LaidTrees.{laid, lay_all}
 
+-- where there are no keys
+abbrev pub no_places : List ℕ → ℕ
+no_places key = 0
+
 -- a tree stands behind the old words, the first of which is body word `base`, and this is its item
 pub record IsLaid (t : Resource) (places : List ℕ → ℕ) (base : ℕ) (old new : List ℕ) (told : ℕ) : Type 0 where
   pub words : new ≡ old ++ (laid t places (base + length old)).0

@@ -7,9 +7,17 @@ use Rattle.resb_tree.specs.declared.resource.Resource.TheVariants as r
 use Rattle.resb.specs.DraftRows.{Holds, HasRoom}
 use Rattle.resb.specs.DraftParents.{Lacks}
 use Rattle.resb.specs.Plan.{Refuses}
-use Rattle.resb.specs.KeyPlan.{values_in}
+use Rattle.resb.specs.Entries.{values_in}
 use Rattle.resb.specs.BadKeys.{all_keys, any_bad, has_bad_key}
 use Rattle.resb.specs.declared.draft.Draft.{Draft}
+
+-- an array of these items
+abbrev pub array_of : List Resource → Resource
+array_of items = r.Array items
+
+-- a table of these entries
+abbrev pub table_of : List (List ℕ × Resource) → Resource
+table_of entries = r.Table entries
 
 -- trees with no bad key were put at the end of the row; or memory ran out, or there is no room for the row with them
 abbrev pub Tells : {X : Type 0} → Draft → Draft → List Resource → Result X ResbError → Type 0

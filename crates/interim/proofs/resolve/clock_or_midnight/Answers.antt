@@ -1,5 +1,4 @@
 use Rattle.std.proofs.Common.{◌≡◌, ℕ, Option, Some, None, sym, ap, ◌∙◌}
-use Rattle.std.proofs.lemmas.Result.{err_from_is_err_and}
 use Rattle.interim.specs.declared.types.TimeSpec.{TimeSpec}
 use Rattle.interim.specs.Meaning.{Lands}
 use Rattle.interim.specs.Aims.{aim, clock_or, midnight}
@@ -9,12 +8,11 @@ use Rattle.interim.proofs.resolve.clock_or_midnight.Goals as goal
 
 pub returns-in_err-time-in-None-clause-moment : goal.returns-in_err-time-in-None-clause-moment
 returns-in_err-time-in-None-clause-moment g c =
-    let p = err_from_is_err_and c.from_residual.result c.from_residual.ensures.1 in
     let places = g.Dt.DateTime.may_place c.args.tz in
     let seconds = g.Dt.DateTime.seconds in
     let day = g.Dt.Date.Date.number c.args.date in
-    rw (p.1, p.2) (refused_lands g.Dt.Time.Time.memory g.Dt.DateTime.memory (λ (t : g.row.Dt-Time.Denot). g.Dt.Time.Time.time t) (λ (d : g.row.Dt.Denot). g.Dt.DateTime.moment d) _ (time_at 0 0 0) (Lands places seconds (clock_or g.Dt.Date.Date.calendar midnight c.args.clock day)) g.met.Dt.DateTime.time_wants
-    (λ e. let never : Some midnight ≡ None = sym time_at-midnight ∙ e in cc) c.in_err-time-in-None.ensures)
+    refused_lands g.Dt.Time.Time.memory g.Dt.DateTime.memory (λ (t : g.row.Dt-Time.Denot). g.Dt.Time.Time.time t) (λ (d : g.row.Dt.Denot). g.Dt.DateTime.moment d) _ _ (time_at 0 0 0) (Lands places seconds (clock_or g.Dt.Date.Date.calendar midnight c.args.clock day)) c.from_residual.ensures.1 g.met.Dt.DateTime.time_wants
+    (λ e. let never : Some midnight ≡ None = sym time_at-midnight ∙ e in cc) c.in_err-time-in-None.ensures
 
 pub returns-in_ok-time-in-None-clause-moment : goal.returns-in_ok-time-in-None-clause-moment
 returns-in_ok-time-in-None-clause-moment g c =

@@ -1,5 +1,4 @@
 use Rattle.std.proofs.Common.{◌≡◌, ℤ, ◌+ℤ◌, rules, sym, ap, ◌∙◌, arith, to_z, of_z, to_z-of_z, w32, FitsSigned}
-use Rattle.std.proofs.lemmas.Result.{err_from_is_err_and}
 use Rattle.std.specs.Ordering.{int_cmp}
 use Rattle.jiff_core.proofs.SignedLemmas.{signed_arith}
 use Rattle.interim.specs.DatesAndTimes.{date_at}
@@ -9,7 +8,6 @@ use Rattle.interim.proofs.resolve.month_day.Goals as goal
 
 pub returns-in_err-date : goal.returns-in_err-date
 returns-in_err-date g c =
-    let p = err_from_is_err_and c.from_residual.result c.from_residual.ensures.1 in
     let year = c.year-year.ensures.year in
     let fits : FitsSigned w32 c.year-year.result = search rules in
     let same : to_z w32 (of_z w32 c.year-year.result) ≡ c.year-year.result = to_z-of_z fits in
@@ -19,8 +17,8 @@ returns-in_err-date g c =
       year.0,
       year.1,
       year.2,
-      rw (p.1, p.2) (refused_on g.D.Date.memory g.D.Date.memory (λ (d : g.row.D.Denot). g.D.Date.number d) (λ (d : g.row.D.Denot). g.D.Date.number d) _ _ (month_day days base c.year-year.result c.args.month c.args.day c.args.direction) (λ wants. wants)
-          (λ e. month_day-none days base c.year-year.result c.args.month c.args.day c.args.direction (ap (λ (y : ℤ). date_at days y c.args.month c.args.day) (sym same) ∙ e)) c.in_err-date.ensures),
+      refused_on g.D.Date.memory g.D.Date.memory (λ (d : g.row.D.Denot). g.D.Date.number d) (λ (d : g.row.D.Denot). g.D.Date.number d) _ _ _ (month_day days base c.year-year.result c.args.month c.args.day c.args.direction) c.from_residual.ensures.1 (λ wants. wants)
+          (λ e. month_day-none days base c.year-year.result c.args.month c.args.day c.args.direction (ap (λ (y : ℤ). date_at days y c.args.month c.args.day) (sym same) ∙ e)) c.in_err-date.ensures,
     )
 
 pub returns : goal.returns

@@ -1,5 +1,4 @@
 use Rattle.std.proofs.Common.{◌≡◌, false, true, ℤ, rules, sym, ap, ◌∙◌, to_z, of_z, to_z-of_z, w32, FitsSigned}
-use Rattle.std.proofs.lemmas.Result.{err_from_is_err_and}
 use Rattle.std.specs.Ordering.{int_cmp, int_eq}
 use Rattle.interim.specs.Walls.{Wall, step_by}
 use Rattle.interim.specs.NamedDates.{own_weekday, weeks_on}
@@ -16,14 +15,13 @@ returns-then-not-is_same g c =
 
 pub returns-in_err-decides : goal.returns-in_err-decides
 returns-in_err-decides g c =
-    let p = err_from_is_err_and c.from_residual.result c.from_residual.ensures.1 in
     let days = g.Dt.Date.Date.calendar in
     let named = g.Dt.Date.Date.number c.args.named in
     let day = g.Dt.Date.Date.number c.args.day in
     let base : Wall = record { day = g.Dt.Date.Date.number c.args.base; time = g.Dt.Time.Time.time c.args.time } in
     let same : int_eq named base.day ≡ true = sym (c.is_same.ensures (int_cmp named base.day) (g.met.Dt.Date.Date.ordered c.args.named c.args.base)) ∙ c.if-not-is_same.false in
-    rw (p.1, p.2) (refused_on g.Dt.Time.Time.memory g.Dt.DateTime.memory (λ (t : g.row.Dt-Time.Denot). g.Dt.Time.Time.time t) (λ (d : g.row.Dt-Date.Denot). g.Dt.Date.Date.number d) _ _ (own_weekday days base c.args.direction c.args.clock named day) g.met.Dt.DateTime.time_wants
-    (λ e. own_weekday-none days base c.args.direction c.args.clock named day same e) c.in_err-decides.ensures)
+    refused_on g.Dt.Time.Time.memory g.Dt.DateTime.memory (λ (t : g.row.Dt-Time.Denot). g.Dt.Time.Time.time t) (λ (d : g.row.Dt-Date.Denot). g.Dt.Date.Date.number d) _ _ _ (own_weekday days base c.args.direction c.args.clock named day) c.from_residual.ensures.1 g.met.Dt.DateTime.time_wants
+    (λ e. own_weekday-none days base c.args.direction c.args.clock named day same e) c.in_err-decides.ensures
 
 pub returns : goal.returns
 returns g c =

@@ -1,5 +1,5 @@
 use Rattle.std.proofs.Common.{ℕ, List, [], Bor, arith}
-use Rattle.resb.specs.KeyPlan.{places_in}
+use Rattle.resb.specs.Inside.KeyPlaces.{places_in}
 use Rattle.resb.proofs.PlacedKeys.{units_past, most_past}
 use Rattle.resb.proofs.draft.push_places.Goals as goal
 

@@ -1,7 +1,7 @@
 use Rattle.std.proofs.Common.{◌≡◌, ◌≤◌, ◌++◌, drop}
 use Rattle.std.specs.Prelude.{map}
 use Rattle.resb.specs.Pool.{bare}
-use Rattle.resb.specs.KeyPlan.{places_in}
+use Rattle.resb.specs.Inside.KeyPlaces.{places_in}
 use Rattle.resb.specs.WrittenFiles.{most_of}
 use Rattle.resb.proofs.draft.push_places.Given as goal
 

@@ -1,6 +1,6 @@
 use Rattle.std.proofs.Common.{[], ◌∷◌, ◌++◌, ◌+◌, drop, map}
 use Rattle.resb.specs.Pool.{bare}
-use Rattle.resb.specs.KeyPlan.{told_values}
+use Rattle.resb.specs.Entries.{told_values}
 use Rattle.resb.specs.TreeKeys.{keys_met, item_keys, entry_keys}
 use Rattle.resb.proofs.Pools.{pooled_on}
 use Rattle.resb.proofs.LaidSteps.{item_cons}

@@ -1,7 +1,8 @@
 use Rattle.std.proofs.Common.{◌≡◌, ◌++◌, [], drop}
 use Rattle.std.specs.Prelude.{map}
 use Rattle.resb.specs.Pool.{bare}
-use Rattle.resb.specs.KeyPlan.{told_values, pooled}
+use Rattle.resb.specs.Entries.{told_values}
+use Rattle.resb.specs.Inside.Pooling.{pooled}
 use Rattle.resb.specs.TreeKeys.{keys_met, item_keys, entry_keys}
 use Rattle.resb.proofs.key_pool.+meet.Given as goal
 

@@ -1,6 +1,6 @@
 use Rattle.std.proofs.Common.{◌+◌, length, arith}
 use Rattle.std.proofs.lemmas.Grind.{common_steps}
-use Rattle.resb.specs.KeyPlan.{no_places}
+use Rattle.resb.specs.Inside.Laying.{no_places}
 use Rattle.resb.proofs.LaidWords.{text_some}
 use Rattle.resb.proofs.laying.lay_text.Goals as goal
 

@@ -4,7 +4,7 @@ use Rattle.std.proofs.lemmas.Bool.{leb-true, leb-false}
 use Rattle.std.proofs.lemmas.List.{length-map}
 use Rattle.resb_tree.specs.declared.resource.Resource.TheVariants as r
 use Rattle.resb_tree.specs.Keys.{keys_in}
-use Rattle.resb.specs.KeyPlan.{values_in}
+use Rattle.resb.specs.Entries.{values_in}
 use Rattle.resb.specs.Packing.{pack_units}
 use Rattle.resb.proofs.LaidParents.{count_is, empty_table, behind, room_behind}
 use Rattle.resb.proofs.LaidWords.{err_on}

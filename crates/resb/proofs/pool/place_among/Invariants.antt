@@ -1,5 +1,6 @@
 use Rattle.std.proofs.Common.{◌≡◌, ◌+◌, ◌<◌, ◌^◌, drop, length}
-use Rattle.resb.specs.Pool.{bare, place_told}
+use Rattle.resb.specs.Pool.{bare}
+use Rattle.resb.specs.Inside.Pooling.{place_told}
 use Rattle.resb.specs.TreeKeys.{pool_bytes}
 use Rattle.resb.proofs.Pools.{told_at}
 use Rattle.resb.proofs.pool.place_among.Given as goal

@@ -1,7 +1,7 @@
 use Rattle.std.proofs.Common.{◌≤◌, [], length, arith}
 use Rattle.resb_tree.specs.declared.resource.Resource.TheVariants as r
 use Rattle.resb_tree.specs.Keys.{keys_in}
-use Rattle.resb.specs.KeyPlan.{values_in}
+use Rattle.resb.specs.Entries.{values_in}
 use Rattle.resb.proofs.LaidSteps.{length-values}
 use Rattle.resb.proofs.LaidWords.{err_on}
 use Rattle.resb.proofs.Told.{told_next, told_all, told_stop, puts_tells, array_told, table_told, parent_stop, value_at}

@@ -1,4 +1,4 @@
-use Rattle.resb.specs.KeyPlan.{values_in}
+use Rattle.resb.specs.Entries.{values_in}
 use Rattle.resb.proofs.Told.{Begun}
 use Rattle.resb.proofs.writing.+tell.Given as goal
 

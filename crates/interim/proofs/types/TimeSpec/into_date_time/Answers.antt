@@ -1,5 +1,4 @@
 use Rattle.std.proofs.Common.{◌≡◌, ℤ, Option, Some, pos, ◌+ℤ◌, ◌-ℤ◌, ◌*ℤ◌, ◌/◌, rules, sym, ap, ◌∙◌, arith, to_z, of_z, to_z-of_z, w64, FitsSigned}
-use Rattle.std.proofs.lemmas.Result.{err_from_is_err_and}
 use Rattle.jiff_core.proofs.SignedLemmas.{signed_casts}
 use Rattle.interim.specs.Refusal.{within}
 use Rattle.interim.specs.Aims.{AtSecond, aim, clock_on}
@@ -9,24 +8,22 @@ use Rattle.interim.proofs.types.TimeSpec.into_date_time.Goals as goal
 
 pub returns-in_err-time-clause-moment : goal.returns-in_err-time-clause-moment
 returns-in_err-time-clause-moment g c =
-    let p = err_from_is_err_and c.from_residual.result c.from_residual.ensures.1 in
     let places = g.Dt.DateTime.may_place c.args.tz in
     let seconds = g.Dt.DateTime.seconds in
     let days = g.Dt.Date.Date.calendar in
     let day = g.Dt.Date.Date.number c.args.date in
-    rw (p.1, p.2) (refused_lands g.Dt.Time.Time.memory g.Dt.DateTime.memory (λ (t : g.row.Dt-Time.Denot). g.Dt.Time.Time.time t) (λ (d : g.row.Dt.Denot). g.Dt.DateTime.moment d) _ _ (Lands places seconds (clock_on days c.args.self day)) g.met.Dt.DateTime.time_wants
-    (λ e. lands_nothing places seconds (clock_on days c.args.self day) (clock_on-no_time days c.args.self day e)) c.in_err-time.ensures)
+    refused_lands g.Dt.Time.Time.memory g.Dt.DateTime.memory (λ (t : g.row.Dt-Time.Denot). g.Dt.Time.Time.time t) (λ (d : g.row.Dt.Denot). g.Dt.DateTime.moment d) _ _ _ (Lands places seconds (clock_on days c.args.self day)) c.from_residual.ensures.1 g.met.Dt.DateTime.time_wants
+    (λ e. lands_nothing places seconds (clock_on days c.args.self day) (clock_on-no_time days c.args.self day e)) c.in_err-time.ensures
 
 pub returns-in_err-day-clause-moment : goal.returns-in_err-day-clause-moment
 returns-in_err-day-clause-moment g c =
-    let p = err_from_is_err_and c.from_residual-in_err-day.result c.from_residual-in_err-day.ensures.1 in
     let places = g.Dt.DateTime.may_place c.args.tz in
     let seconds = g.Dt.DateTime.seconds in
     let days = g.Dt.Date.Date.calendar in
     let day = g.Dt.Date.Date.number c.args.date in
     let hours : to_z w64 (c.args.self.hour / 24) ≡ pos (c.args.self.hour / 24) = omega (arith, signed_casts) in
-    rw (p.1, p.2) (refused_lands g.Dt.Date.Date.memory g.Dt.DateTime.memory (λ (d : g.row.Dt-Date.Denot). g.Dt.Date.Date.number d) (λ (d : g.row.Dt.Denot). g.Dt.DateTime.moment d) _ _ (Lands places seconds (clock_on days c.args.self day)) g.met.Dt.DateTime.date_wants
-    (λ e. lands_nothing places seconds (clock_on days c.args.self day) (clock_on-no_day days c.args.self day _ c.in_ok-time.ensures (ap (λ (n : ℤ). within days (day +ℤ n)) (sym hours) ∙ e))) c.in_err-day.ensures)
+    refused_lands g.Dt.Date.Date.memory g.Dt.DateTime.memory (λ (d : g.row.Dt-Date.Denot). g.Dt.Date.Date.number d) (λ (d : g.row.Dt.Denot). g.Dt.DateTime.moment d) _ _ _ (Lands places seconds (clock_on days c.args.self day)) c.from_residual-in_err-day.ensures.1 g.met.Dt.DateTime.date_wants
+    (λ e. lands_nothing places seconds (clock_on days c.args.self day) (clock_on-no_day days c.args.self day _ c.in_ok-time.ensures (ap (λ (n : ℤ). within days (day +ℤ n)) (sym hours) ∙ e))) c.in_err-day.ensures
 
 pub returns-in-None-clause-moment : goal.returns-in-None-clause-moment
 returns-in-None-clause-moment g c =

@@ -4,7 +4,7 @@ use Rattle.std.proofs.lemmas.List.{length-map}
 use Rattle.resb_tree.specs.declared.error.ResbError.TheVariants.{TooLarge}
 use Rattle.resb_tree.specs.declared.resource.Resource.TheVariants as r
 use Rattle.resb_tree.specs.Weight.{sum_of}
-use Rattle.resb.specs.KeyPlan.{values_in}
+use Rattle.resb.specs.Entries.{values_in}
 use Rattle.resb.specs.Pool.{bare, place_of}
 use Rattle.resb.specs.WrittenFiles.{most_of}
 use Rattle.resb.proofs.LaidSteps.{length-values}

@@ -1,5 +1,5 @@
 use Rattle.std.proofs.Common.{◌≡◌, ◌≢◌, ◌∙◌, ◌+◌, ◌-◌, ◌*◌, ◌≤◌, ◌∷◌, [], length, ap, arith}
-use Rattle.resb.specs.Plan.{bundle_of}
+use Rattle.resb.specs.Inside.Bundles.{bundle_of}
 use Rattle.resb.specs.TreeKeys.{key_pool}
 use Rattle.resb.specs.WrittenFiles.{written}
 use Rattle.resb.proofs.LaidWords.{err_on}

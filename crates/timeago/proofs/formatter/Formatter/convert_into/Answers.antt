@@ -3,7 +3,7 @@ use Rattle.std.proofs.lemmas.Bool.{le-ltb}
 use Rattle.std.specs.Duration.{as_nanos}
 use Rattle.timeago.specs.Formatters.{settings_of, language_of}
 use Rattle.timeago.specs.Words.{told_text}
-use Rattle.timeago.specs.Steps.{counted}
+use Rattle.timeago.specs.Inside.Steps.{counted}
 use Rattle.timeago.proofs.Texts.{words_if, not_below}
 use Rattle.timeago.proofs.formatter.Formatter.convert_into.Goals as goal
 

@@ -1,7 +1,7 @@
 use Rattle.std.proofs.Common.{◌≤◌, ◌++◌, string_bytes}
 use Rattle.tongues.specs.Units.{unit_size}
 use Rattle.timeago.specs.Formatters.{settings_of, language_of}
-use Rattle.timeago.specs.Steps.{counted, chunks}
+use Rattle.timeago.specs.Inside.Steps.{counted, chunks}
 use Rattle.timeago.proofs.Kept.{kept_added, kept_on}
 use Rattle.timeago.proofs.Texts.{is_below, not_below, goes_on, is_told, stops}
 use Rattle.timeago.proofs.formatter.Formatter.push_chunks.Goals as goal

@@ -1,7 +1,7 @@
 use Rattle.std.proofs.Common.{◌≡◌, ◌++◌, ◌-◌, string_bytes}
 use Rattle.timeago.specs.Appended.{Keeps}
 use Rattle.timeago.specs.Formatters.{settings_of, language_of}
-use Rattle.timeago.specs.Steps.{counted, chunks}
+use Rattle.timeago.specs.Inside.Steps.{counted, chunks}
 use Rattle.timeago.proofs.formatter.Formatter.push_chunks.Given as goal
 
 -- what was told and what is still told is all that is told, and what the text held is kept

@@ -1,0 +1,2 @@
+-- What serves private contracts alone: no reader needs it to know what the crate does.
+pub mod Steps
