@@ -18,8 +18,6 @@ mod program;
 mod reply;
 mod tally;
 mod teller;
-#[cfg(test)]
-mod tests;
 mod told;
 
 pub use program::run;

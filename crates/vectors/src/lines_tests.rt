@@ -1,7 +1,7 @@
 //! Lines of the command `at` over the sample bundles, and the answers to them.
 use crate::runs::{Row, differences, joined, ran_over, ran_slowly, written};
-use crate::trees::{Entries, fixed_zone, root, text};
-use crate::{changed_zone, table_zone, three_zones, unlawful_zones};
+use crate::trees::{Value, bundle, worldwide};
+use crate::{aliased, changed_zone, table_zone, three_zones, unlawful_zones};
 use resb::Resource;
 use std::alloc::{AllocError, Global};
 use std::test::Fail;
@@ -100,7 +100,7 @@ const MOMENTS: [Row; 22] = [
 ];
 
 // Further lines over the same zones.
-const FURTHER: [Row; 12] = [
+const FURTHER: [Row; 14] = [
     ("Test/Plus2\t253402300800\tuk\tnow", "! base out of range"),
     ("Test/None\t1521622800\tuk\tnow", "! unknown zone"),
     (
@@ -140,6 +140,67 @@ const FURTHER: [Row; 12] = [
         "! expected empty date string at the end of the input",
     ),
     ("x", "! bad line"),
+    ("Test/Plus2\t1521622800\tuk 2018-03-23 20:00", "! bad line"),
+    (
+        "Test/Plus2\t1521622800\tuk\t2018-03-23 20:60",
+        "! date could not be parsed from input",
+    ),
+];
+
+// Lines that end.
+const ENDED: [Row; 2] = [
+    ("\n", "! bad line"),
+    (
+        "Test/Plus2\t1521622800\tus\t2018-03-23 20:00:30\r\n",
+        "1521828030\t0\t7200\t+\t2 days",
+    ),
+];
+
+// The fields of a line at their edges.
+const FIELDS: [Row; 13] = [
+    ("Test/Plus2\t-5\tuk\tnow", "-5\t0\t7200\t-\tnow"),
+    ("Test/Plus2\t-0\tuk\tnow", "0\t0\t7200\t-\tnow"),
+    ("Test/Plus2\t000000000000\tuk\tnow", "0\t0\t7200\t-\tnow"),
+    ("Test/Plus2\t999999999999\tuk\tnow", "! base out of range"),
+    ("Test/Plus2\t-999999999999\tuk\tnow", "! base out of range"),
+    ("\t1\tuk\tx", "! unknown zone"),
+    ("Zürich\t1\tuk\té", "! unknown zone"),
+    ("Z\t1\tuk\t", "! unknown zone"),
+    ("Z\t1\tuk\t\tx\ty", "! unknown zone"),
+    ("Z\t1\tuk\tx\r", "! unknown zone"),
+    ("Z\t1\tuk\tx\r\r", "! unknown zone"),
+    ("Z\t1\tus\t\r", "! unknown zone"),
+    ("\r\t1\tuk\t\rx", "! unknown zone"),
+];
+
+// Lines that have not four fields of text, a base of one to twelve digits, and a dialect.
+const BAD: [&[u8]; 26] = [
+    b"\r",
+    b"Z",
+    b"Z\t1",
+    b"Z\t1\tuk",
+    b"Z\t1\tuk\r",
+    b"Z 1 uk x",
+    b"Z\t+5\tuk\tx",
+    b"Z\t-\tuk\tx",
+    b"Z\t--5\tuk\tx",
+    b"Z\t\tuk\tx",
+    b"Z\t0000000000005\tuk\tx",
+    b"Z\t-0000000000005\tuk\tx",
+    b"Z\t5x\tuk\tx",
+    b"Z\t 5\tuk\tx",
+    b"Z\t\xd9\xa5\tuk\tx",
+    b"Z\t1\tUK\tx",
+    b"Z\t1\tukx\tx",
+    b"Z\t1\tu\tx",
+    b"Z\t1\t\tx",
+    b"Z\t1\tuk\r\tx",
+    b"\xff\t1\tuk\tx",
+    b"Z\t1\xff\tuk\tx",
+    b"Z\t1\tuk\t\x80",
+    b"Z\t1\tuk\tx\xc3",
+    b"Z\t1\tuk\tx\xc3\r",
+    b"Z\t1\tuk\t\xed\xa0\x80",
 ];
 
 // A phrase for each text that can be expected.
@@ -207,7 +268,7 @@ const FAULTS: [Row; 15] = [
 ];
 
 // The edges of what a base, a fraction and a line can be.
-const EDGES: [Row; 9] = [
+const EDGES: [Row; 11] = [
     (
         "Test/Plus2\t-377705116800\tuk\tnow",
         "-377705116800\t0\t7200\t-\tnow",
@@ -235,6 +296,14 @@ const EDGES: [Row; 9] = [
         "America/Los_Angeles\t1762075800\tuk\tnow",
         "1762072200\t0\t-25200\t-\t1 hour ago",
     ),
+    (
+        "Test/Plus2\t253402300799\tuk\t2018-03-23 20:00",
+        "1521828000\t0\t7200\t-\t7987 years ago",
+    ),
+    (
+        "Test/Plus2\t-377705116800\tuk\t2018-03-23 20:00",
+        "1521828000\t0\t7200\t+\t12025 years",
+    ),
 ];
 
 // Zones that break a law, the least of which is told.
@@ -256,6 +325,12 @@ const BY_TABLE: [Row; 2] = [
         "1540686600\t0\t3600\t+\t7 months",
     ),
 ];
+
+// An alias of the zone two hours east of Greenwich.
+const ALIASED: [Row; 1] = [(
+    "US/Pacific\t1521622800\tuk\t2018-03-23 20:00",
+    "1521828000\t0\t7200\t+\t2 days",
+)];
 
 // Offsets of nearly a day, and of a day.
 const NEARLY_A_DAY: [Row; 1] = [(
@@ -300,23 +375,13 @@ const JAPANESE: [Row; 2] = [
     ),
 ];
 
-// Seconds, told to the past in three counts.
-const SECONDS_RU: [Row; 1] = [("3600", "1 час назад")];
-
-const SECONDS_EN: [Row; 2] = [
-    ("18446744073709551616", "! bad line"),
-    ("3663", "1 hour 1 minute 3 seconds ago"),
-];
-
-const SECONDS_DE: [Row; 1] = [("3600", "vor 1 Stunde")];
-
 const EN: [&str; 3] = ["at", "en", "F"];
 
 #[test]
 fn answers_lines_of_each_kind(rt: HostRuntime) -> Result<(), Fail> {
     let alloc = rt.alloc();
     let bundle = written(alloc, &three_zones(alloc)?)?;
-    let tables: [&[Row]; 4] = [&MOMENTS, &FURTHER, &FAULTS, &EDGES];
+    let tables: [&[Row]; 6] = [&MOMENTS, &FURTHER, &ENDED, &FIELDS, &FAULTS, &EDGES];
     for rows in tables {
         let told = differences(alloc, &EN, &bundle, rows)?;
         assert_eq!(rt; told.as_str(), "");
@@ -327,7 +392,8 @@ fn answers_lines_of_each_kind(rt: HostRuntime) -> Result<(), Fail> {
 #[test]
 fn answers_lines_over_other_zones(rt: HostRuntime) -> Result<(), Fail> {
     let alloc = rt.alloc();
-    let tables: [(Resource, &[Row]); 4] = [
+    let tables: [(Resource, &[Row]); 5] = [
+        (aliased(alloc, 1)?, &ALIASED),
         (unlawful_zones(alloc)?, &UNLAWFUL),
         (table_zone(alloc)?, &BY_TABLE),
         (single(alloc, 86_399)?, &NEARLY_A_DAY),
@@ -342,11 +408,9 @@ fn answers_lines_over_other_zones(rt: HostRuntime) -> Result<(), Fail> {
 
 /// A bundle of `Test/Zone` alone, with this offset at all seconds.
 fn single(alloc: Global, offset: i32) -> Result<Resource, AllocError> {
-    let zones = vec![in alloc; fixed_zone(alloc, offset)?]?;
-    let names = vec![in alloc; text(alloc, "Test/Zone")?]?;
-    let regions = vec![in alloc; text(alloc, "001")?]?;
-    let rules = Entries::new(alloc).into_table();
-    root(alloc, zones, names, rules, regions)
+    let offsets = [offset, 0];
+    let fields = [("typeOffsets", Value::Numbers(&offsets))];
+    bundle(alloc, &[worldwide("Test/Zone", &fields)], &[])
 }
 
 #[test]
@@ -369,13 +433,10 @@ fn tells_the_law_that_a_change_breaks(rt: HostRuntime) -> Result<(), Fail> {
 fn answers_in_other_languages(rt: HostRuntime) -> Result<(), Fail> {
     let alloc = rt.alloc();
     let bundle = written(alloc, &three_zones(alloc)?)?;
-    let tables: [(&[&str], &[Row]); 6] = [
+    let tables: [(&[&str], &[Row]); 3] = [
         (&["at", "ru", "F"], &RUSSIAN),
         (&["at", "de", "F"], &GERMAN),
         (&["at", "ja", "F"], &JAPANESE),
-        (&["ago", "ru"], &SECONDS_RU),
-        (&["ago", "en"], &SECONDS_EN),
-        (&["ago", "de"], &SECONDS_DE),
     ];
     for (args, rows) in tables {
         let told = differences(alloc, args, &bundle, rows)?;
@@ -421,6 +482,45 @@ fn answers_all_ended_lines_before_a_fault(rt: HostRuntime) -> Result<(), Fail> {
 }
 
 #[test]
+fn refuses_bad_lines(rt: HostRuntime) -> Result<(), Fail> {
+    let alloc = rt.alloc();
+    let bundle = written(alloc, &three_zones(alloc)?)?;
+    let mut lines = Vec::new(alloc);
+    let mut answers = Vec::new(alloc);
+    for line in BAD {
+        lines.extend_from_slice(line)?;
+        lines.push(b'\n')?;
+        answers.extend_from_slice(b"! bad line\n")?;
+    }
+    let (status, text) = ran_over(alloc, &EN, bundle, &lines)?;
+    assert_eq!(rt; status, Status::Done);
+    assert_eq!(rt; text.as_slice(), answers.as_slice());
+    Ok(())
+}
+
+#[test]
+fn answers_each_line_once(rt: HostRuntime) -> Result<(), Fail> {
+    let alloc = rt.alloc();
+    let (line, answer) = MOMENTS[0];
+    let mut lines = Vec::new(alloc);
+    lines.extend_from_slice(line.as_bytes())?;
+    lines.extend_from_slice(b"\nx\n\n\xff\n")?;
+    // as long as a line can be, and a byte more
+    lines.extend_from_slice(&[b'x'; 1024])?;
+    lines.push(b'\n')?;
+    lines.extend_from_slice(&[b'x'; 1025])?;
+    lines.push(b'\n')?;
+    lines.extend_from_slice(line.as_bytes())?;
+    let bad = "! bad line\n! bad line\n! bad line\n! bad line\n! bad line";
+    let answers = format!(in alloc; "{answer}\n{bad}\n{answer}\n")?;
+    let bundle = written(alloc, &three_zones(alloc)?)?;
+    let (status, text) = ran_over(alloc, &EN, bundle, &lines)?;
+    assert_eq!(rt; status, Status::Done);
+    assert_eq!(rt; text.as_slice(), answers.as_bytes());
+    Ok(())
+}
+
+#[test]
 fn answers_long_lines(rt: HostRuntime) -> Result<(), Fail> {
     let alloc = rt.alloc();
     let (line, answer) = MOMENTS[0];
@@ -430,9 +530,14 @@ fn answers_long_lines(rt: HostRuntime) -> Result<(), Fail> {
     no_text[line.len()] = 0xff;
     let mut digits = [b'1'; 925];
     digits[..25].copy_from_slice(b"Test/Plus2\t1521622800\tuk\t");
-    let rows: [(&[u8], &str); 4] = [
+    let mut ended = blanks;
+    ended[1023] = b'\r';
+    ended[1024] = b'\r';
+    let rows: [(&[u8], &str); 6] = [
         (&blanks[..1024], answer),
         (&blanks, "! bad line"),
+        (&ended[..1024], answer),
+        (&ended, "! bad line"),
         (&no_text[..1024], "! bad line"),
         (&digits, "! expected date as position 4..8"),
     ];

@@ -1,7 +1,8 @@
 //! Runs of the program over bundles and lines in memory.
 ghost use Rattle.std.specs.Prelude.{None};
 
-use resb::{Resource, write};
+use crate::bundles::words_of;
+use resb::Resource;
 use std::alloc::{AllocError, Global};
 use std::fmt::Write;
 use std::str::from_utf8;
@@ -56,8 +57,7 @@ pub fn bytes_of(alloc: Global, words: &[u32]) -> Result<Vec<u8>, AllocError> {
 
 /// The bytes of a tree, or none where it cannot be written.
 pub fn written(alloc: Global, tree: &Resource) -> Result<Vec<u8>, Fail> {
-    let words = write(alloc, tree).ok().ok_or("the tree is written")?;
-    Ok(bytes_of(alloc, &words)?)
+    Ok(bytes_of(alloc, &words_of(alloc, tree)?)?)
 }
 
 /// A run over a bundle and an input: how it ended, and what was written.

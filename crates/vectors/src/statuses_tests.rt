@@ -1,8 +1,6 @@
 //! How runs end, and what was written then.
 use crate::runs::{ran_over, words, written};
 use crate::three_zones;
-use crate::trees::{Entries, add_rule, integers, root, text};
-use resb::Resource;
 use std::alloc::{AllocError, Global};
 use std::test::Fail;
 use tell::{MemSink, MemSource, Status, run};
@@ -23,8 +21,18 @@ const EN: [&str; 3] = ["at", "en", "F"];
 #[test]
 fn tells_words_that_are_no_command(rt: HostRuntime) -> Result<(), Fail> {
     let alloc = rt.alloc();
-    let commands: [&[&str]; 5] = [
+    let commands: [&[&str]; 15] = [
+        &["at"],
+        &["at", "en"],
+        &["at", "en", "F", "G"],
         &["at", "eu", "F"],
+        &["at", "EN", "F"],
+        &["AT", "en", "F"],
+        &["ago"],
+        &["ago", "eu"],
+        &["ago", "en", "F"],
+        &["ago", ""],
+        &["en", "ago"],
         &["load", "0"],
         &["load", "01"],
         &["load", "20001"],
@@ -35,6 +43,26 @@ fn tells_words_that_are_no_command(rt: HostRuntime) -> Result<(), Fail> {
         let (status, text) = ran_over(alloc, args, bundle, FIRST_LINE.as_bytes())?;
         assert_eq!(rt; status.code(), 2);
         assert_eq!(rt; text.len(), 0);
+    }
+    Ok(())
+}
+
+const LANGUAGES: [&str; 18] = [
+    "en", "zh", "ja", "ru", "de", "be", "pl", "sv", "ro", "tr", "fr", "es", "da", "pt", "it", "uk",
+    "th", "ko",
+];
+
+#[test]
+fn knows_eighteen_languages(rt: HostRuntime) -> Result<(), Fail> {
+    let alloc = rt.alloc();
+    for code in LANGUAGES {
+        let commands: [&[&str]; 2] = [&["at", code, "F"], &["ago", code]];
+        for args in commands {
+            let bundle = written(alloc, &three_zones(alloc)?)?;
+            let (status, text) = ran_over(alloc, args, bundle, b"x")?;
+            assert_eq!(rt; status, Status::Done);
+            assert_eq!(rt; text.as_slice(), b"! bad line\n".as_slice());
+        }
     }
     Ok(())
 }
@@ -100,60 +128,6 @@ fn reads_sixteen_megabytes(rt: HostRuntime) -> Result<(), Fail> {
         let (status, text) = ran_over(alloc, &EN, bundle, &input)?;
         assert_eq!(rt; status.code(), code);
         assert_eq!(rt; text.as_slice(), answers.as_bytes());
-    }
-    Ok(())
-}
-
-/// A bundle of one zone with these type offsets and this rule.
-fn ruled(alloc: Global, offsets: &[i32], rule: &[i32]) -> Result<Resource, AllocError> {
-    let mut zone = Entries::new(alloc);
-    zone.add("typeOffsets", integers(alloc, offsets)?)?;
-    add_rule(alloc, &mut zone, "Rule", -28_800, 2008)?;
-    let zones = vec![in alloc; zone.into_table()]?;
-    let names = vec![in alloc; text(alloc, "Test/Zone")?]?;
-    let regions = vec![in alloc; text(alloc, "001")?]?;
-    let mut rules = Entries::new(alloc);
-    rules.add("Rule", integers(alloc, rule)?)?;
-    root(alloc, zones, names, rules.into_table(), regions)
-}
-
-#[test]
-fn refuses_rules_and_offsets_that_are_none(rt: HostRuntime) -> Result<(), Fail> {
-    let alloc = rt.alloc();
-    let rows: [(&[i32], &[i32], u8); 5] = [
-        (
-            &[-28_800, 0],
-            &[2, 8, -1, 7200, 0, 10, 1, -1, 7200, 0, 3600],
-            0,
-        ),
-        // a second past the day's end, a day that no weekday's place is, and no weekday
-        (
-            &[-28_800, 0],
-            &[2, 8, -1, 86_401, 0, 10, 1, -1, 7200, 0, 3600],
-            3,
-        ),
-        (
-            &[-28_800, 0],
-            &[2, 6, 1, 7200, 0, 10, 1, -1, 7200, 0, 3600],
-            3,
-        ),
-        (
-            &[-28_800, 0],
-            &[2, 8, -8, 7200, 0, 10, 1, -1, 7200, 0, 3600],
-            3,
-        ),
-        // a sum past 32 bits
-        (
-            &[i32::MAX, 1],
-            &[2, 8, -1, 7200, 0, 10, 1, -1, 7200, 0, 3600],
-            3,
-        ),
-    ];
-    for (offsets, rule, code) in rows {
-        let bundle = written(alloc, &ruled(alloc, offsets, rule)?)?;
-        let (status, text) = ran_over(alloc, &EN, bundle, b"")?;
-        assert_eq!(rt; status.code(), code, "{rule:?}");
-        assert_eq!(rt; text.len(), 0);
     }
     Ok(())
 }

@@ -1,21 +1,15 @@
 //! What a phrase tells in a zone, through formatters of any language.
+use crate::bundles::{words_of, zones_in};
 use crate::{three_zones, unlawful_zones};
 use interim::{DateError, Dialect, Expected};
-use resb::write;
 use std::alloc::Global;
 use std::test::Fail;
 use tell::{TellError, Told, tell, tell_in};
 use timeago::languages::german::German;
 use timeago::{English, Formatter, Language};
-use zoneinfo64::{ZoneFault, ZoneInfo64};
+use zoneinfo64::ZoneFault;
 
 const BASE: i64 = 1_521_622_800;
-
-/// The words of the sample bundle of three zones.
-fn three(alloc: Global) -> Result<Vec<u32>, Fail> {
-    let words = write(alloc, &three_zones(alloc)?);
-    Ok(words.ok().ok_or("three zones are written")?)
-}
 
 /// What is told in one language of a moment to the east of Greenwich.
 fn told_in<L: Language>(
@@ -53,7 +47,7 @@ fn plain(told: &Told) -> (i64, u32, i32, bool, bool) {
 #[test]
 fn tells_over_words(rt: HostRuntime) -> Result<(), Fail> {
     let alloc = rt.alloc();
-    let words = three(alloc)?;
+    let words = words_of(alloc, &three_zones(alloc)?)?;
     let past = Formatter::new();
     let mut ahead = Formatter::new();
     ahead.ago("");
@@ -71,8 +65,7 @@ fn tells_over_words(rt: HostRuntime) -> Result<(), Fail> {
 #[test]
 fn tells_in_zones_that_were_read(rt: HostRuntime) -> Result<(), Fail> {
     let alloc = rt.alloc();
-    let info = ZoneInfo64::try_from_u32s(alloc, &three(alloc)?);
-    let info = info.ok().ok_or("three zones are read")?;
+    let info = zones_in(alloc, &three_zones(alloc)?)?;
     let past = Formatter::new();
     let mut ahead = Formatter::new();
     ahead.ago("");
@@ -87,10 +80,8 @@ fn tells_in_zones_that_were_read(rt: HostRuntime) -> Result<(), Fail> {
 #[test]
 fn tells_the_first_refusal(rt: HostRuntime) -> Result<(), Fail> {
     let alloc = rt.alloc();
-    let words = write(alloc, &unlawful_zones(alloc)?).ok().ok_or("written")?;
-    let unlawful = ZoneInfo64::try_from_u32s(alloc, &words).ok().ok_or("read")?;
-    let lawful = ZoneInfo64::try_from_u32s(alloc, &three(alloc)?);
-    let lawful = lawful.ok().ok_or("read")?;
+    let lawful = zones_in(alloc, &three_zones(alloc)?)?;
+    let unlawful = zones_in(alloc, &unlawful_zones(alloc)?)?;
     let past: Formatter<English> = Formatter::new();
     let empty = DateError::EndOfText(Expected::EmptyDate);
     let rows = [

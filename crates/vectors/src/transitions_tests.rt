@@ -1,17 +1,10 @@
 //! The transitions of zones, after a second and before it, and the places of zones.
-use crate::trees::{Entries, add_rule, bytes, integers, root, text};
+use crate::bundles::{loaded, zones_in};
+use crate::samples::{US, US_RULES};
+use crate::trees::{Value, worldwide};
 use crate::{table_zone, three_zones};
-use resb::{Resource, write};
-use std::alloc::{AllocError, Global};
 use std::test::Fail;
-use zoneinfo64::{Offset, Transition, UtcOffset, Zone, ZoneInfo64};
-
-/// The zones of a bundle.
-fn zones_in(alloc: Global, tree: &Resource) -> Result<ZoneInfo64, Fail> {
-    let words = write(alloc, tree).ok().ok_or("the tree is written")?;
-    let zones = ZoneInfo64::try_from_u32s(alloc, words.as_slice());
-    Ok(zones.ok().ok_or("the bundle is read")?)
-}
+use zoneinfo64::{Offset, Transition, UtcOffset, Zone};
 
 fn transition(since: i64, offset: i32, rule_applies: bool) -> Transition {
     Transition {
@@ -19,40 +12,6 @@ fn transition(since: i64, offset: i32, rule_applies: bool) -> Transition {
         offset: UtcOffset::from_seconds(offset),
         rule_applies,
     }
-}
-
-/// `Test/Same`, whose one transition keeps the offset: from an hour of daylight time to an hour of standard time.
-fn same_offset(alloc: Global) -> Result<Resource, AllocError> {
-    let mut zone = Entries::new(alloc);
-    zone.add("typeOffsets", integers(alloc, &[0, 3_600, 3_600, 0])?)?;
-    zone.add("trans", integers(alloc, &[100])?)?;
-    zone.add("typeMap", bytes(alloc, &[1])?)?;
-    let zones = vec![in alloc; zone.into_table()]?;
-    let names = vec![in alloc; text(alloc, "Test/Same")?]?;
-    let regions = vec![in alloc; text(alloc, "001")?]?;
-    root(
-        alloc,
-        zones,
-        names,
-        Entries::new(alloc).into_table(),
-        regions,
-    )
-}
-
-/// `Test/Idle`, without a table, whose rule from 2008 on adds nothing.
-fn idle_rule(alloc: Global) -> Result<Resource, AllocError> {
-    let mut zone = Entries::new(alloc);
-    zone.add("typeOffsets", integers(alloc, &[-28_800, 0])?)?;
-    add_rule(alloc, &mut zone, "US", -28_800, 2008)?;
-    let mut rules = Entries::new(alloc);
-    rules.add(
-        "US",
-        integers(alloc, &[2, 8, -1, 7200, 0, 10, 1, -1, 7200, 0, 0])?,
-    )?;
-    let zones = vec![in alloc; zone.into_table()]?;
-    let names = vec![in alloc; text(alloc, "Test/Idle")?]?;
-    let regions = vec![in alloc; text(alloc, "001")?]?;
-    root(alloc, zones, names, rules.into_table(), regions)
 }
 
 #[test]
@@ -85,39 +44,74 @@ fn finds_the_next_and_the_one_before(rt: HostRuntime) -> Result<(), Fail> {
 #[test]
 fn counts_changes_of_offset(rt: HostRuntime) -> Result<(), Fail> {
     let alloc = rt.alloc();
-    let same = zones_in(alloc, &same_offset(alloc)?)?;
-    let zone = same.get("Test/Same").ok_or("the same offset")?;
-    assert_eq!(rt;
-        zone.next_transition(0, false),
-        Some(transition(100, 3_600, false))
-    );
-    assert_eq!(rt; zone.next_transition(0, true), None);
-    let idle = zones_in(alloc, &idle_rule(alloc)?)?;
-    let zone = idle.get("Test/Idle").ok_or("an idle rule")?;
-    assert_eq!(rt;
-        zone.next_transition(0, false),
-        Some(transition(1_205_056_800, -28_800, false))
-    );
-    assert_eq!(rt; zone.next_transition(0, true), None);
+    // an hour of daylight time, and then an hour of standard time
+    let same = [
+        ("typeOffsets", Value::Numbers(&[0, 3_600, 3_600, 0])),
+        ("trans", Value::Numbers(&[100])),
+        ("typeMap", Value::Bytes(&[1])),
+    ];
+    // a rule that adds nothing
+    let idle = [
+        ("typeOffsets", Value::Numbers(&[-28_800, 0])),
+        ("finalRule", Value::Ascii("US")),
+        ("finalRaw", Value::Number(-28_800)),
+        ("finalYear", Value::Number(2008)),
+    ];
+    let mut rule = US;
+    rule[10] = 0;
+    let zones = [worldwide("Idle", &idle), worldwide("Same", &same)];
+    let info = loaded(alloc, &zones, &[("US", Value::Numbers(&rule))])?;
+    let rows = [
+        ("Same", transition(100, 3_600, false)),
+        ("Idle", transition(1_205_056_800, -28_800, false)),
+    ];
+    for (name, told) in rows {
+        let zone = info.get(name).ok_or("a zone")?;
+        assert_eq!(rt; zone.next_transition(0, false), Some(told), "{name}");
+        assert_eq!(rt; zone.next_transition(0, true), None, "{name}");
+    }
     Ok(())
 }
 
-/// Goes through a zone's transitions from before the first one, and back.
-fn goes_both_ways(zone: Zone<'_>, rows: &[Transition]) -> bool {
+#[test]
+fn reads_the_three_parts_of_a_table(rt: HostRuntime) -> Result<(), Fail> {
+    let alloc = rt.alloc();
+    let fields = [
+        ("typeOffsets", Value::Numbers(&[7200, 0, 7200, 3600])),
+        ("transPre32", Value::Numbers(&[-1, 0, -1, i32::MAX])),
+        ("trans", Value::Numbers(&[-1, 5])),
+        ("transPost32", Value::Numbers(&[0, -1])),
+        ("typeMap", Value::Bytes(&[0, 1, 0, 1, 0])),
+    ];
+    let info = loaded(alloc, &[worldwide("A", &fields)], &US_RULES)?;
+    let zone = info.get("A").ok_or("a zone")?;
+    let rows = [
+        transition(-4_294_967_296, 7200, false),
+        transition(-2_147_483_649, 10_800, true),
+        transition(-1, 7200, false),
+        transition(5, 10_800, true),
+        transition(4_294_967_295, 7200, false),
+    ];
+    assert!(rt; goes_both_ways(zone, &rows, false));
+    Ok(())
+}
+
+/// Goes through a zone's transitions from before the first one, and back; those alone that change the offset, or all.
+fn goes_both_ways(zone: Zone<'_>, rows: &[Transition], changes: bool) -> bool {
     let mut second = i64::MIN;
     for row in rows {
-        if zone.next_transition(second, true) != Some(*row) {
+        if zone.next_transition(second, changes) != Some(*row) {
             return false;
         }
         second = row.since;
     }
     for row in rows.iter().rev() {
-        if zone.prev_transition(second, false, true) != Some(*row) {
+        if zone.prev_transition(second, false, changes) != Some(*row) {
             return false;
         }
         second = row.since.saturating_sub(1);
     }
-    zone.prev_transition(second, false, true).is_none()
+    zone.prev_transition(second, false, changes).is_none()
 }
 
 #[test]
@@ -136,14 +130,14 @@ fn walks_both_ways(rt: HostRuntime) -> Result<(), Fail> {
         transition(1_289_120_400, -28_800, false),
     ];
     let zone = three.get("US/Pacific").ok_or("an alias")?;
-    assert!(rt; goes_both_ways(zone, &pacific));
+    assert!(rt; goes_both_ways(zone, &pacific, true));
     let table = zones_in(alloc, &table_zone(alloc)?)?;
     let zone = table.get("Test/Table").ok_or("a table")?;
     let rows = [
         transition(1_521_939_600, 3_600, true),
         transition(1_540_688_400, 0, false),
     ];
-    assert!(rt; goes_both_ways(zone, &rows));
+    assert!(rt; goes_both_ways(zone, &rows, true));
     assert_eq!(rt; zone.next_transition(1_540_688_400, false), None);
     Ok(())
 }

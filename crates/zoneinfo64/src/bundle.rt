@@ -278,16 +278,3 @@ impl ZoneInfo64 {
         Ok(ZoneInfo64::from_entries(entries))
     }
 }
-
-#[cfg(test)]
-mod check_tests;
-#[cfg(test)]
-mod lookup_tests;
-#[cfg(test)]
-mod rule_tests;
-#[cfg(test)]
-mod tests;
-#[cfg(test)]
-mod trees;
-#[cfg(test)]
-mod zoned_tests;

@@ -1,4 +1,4 @@
-use Rattle.zoneinfo64.proofs.bundle.lookup_tests.place.Given as goal
+use Rattle.vectors.proofs.lookups_tests.place.Given as goal
 
 abbrev pub ghosts-place_from : goal.ghosts-place_from
 ghosts-place_from a = record { name = a.blank.name; parts = a.blank.parts }

@@ -1,11 +1,11 @@
-use super::trees::{ascii, one_zone, read_tree, three_zones, zone};
-use super::*;
-use crate::chrono::ChronoOffset;
-use crate::zone::Zone;
+//! Wall times that are placed in the zones of a bundle, as in any other time zone.
+use crate::bundles::{loaded, zones_in};
+use crate::three_zones;
+use crate::trees::{Value, worldwide};
 use civil::{NaiveDate, NaiveDateTime, NaiveTime};
-use resb_tree::Resource;
 use std::test::Fail;
 use zoned::{Civil, CivilOffset, DateTime, MappedLocalTime, Offset, TimeZone, Utc, placed};
+use zoneinfo64::{ChronoOffset, Zone};
 
 fn wall(year: i32, month: u32, day: u32, hour: u32, min: u32) -> Result<NaiveDateTime, Fail> {
     let date = NaiveDate::from_ymd_opt(year, month, day).ok_or("a date")?;
@@ -38,8 +38,7 @@ fn mapped(answer: &MappedLocalTime<ChronoOffset<'_>>) -> (u8, i32, i32) {
 #[test]
 fn places_wall_times_in_los_angeles(rt: HostRuntime) -> Result<(), Fail> {
     let alloc = rt.alloc();
-    let root = three_zones(alloc, Resource::Integer(0))?;
-    let info = ZoneInfo64::from_entries(read_tree(alloc, root)?);
+    let info = zones_in(alloc, &three_zones(alloc)?)?;
     let zone = info.get("US/Pacific").ok_or("the zone is found")?;
     let (winter, summer) = (-28_800, -25_200);
     let rows = [
@@ -63,8 +62,7 @@ fn places_wall_times_in_los_angeles(rt: HostRuntime) -> Result<(), Fail> {
 #[test]
 fn tells_the_offsets_of_days(rt: HostRuntime) -> Result<(), Fail> {
     let alloc = rt.alloc();
-    let root = three_zones(alloc, Resource::Integer(0))?;
-    let info = ZoneInfo64::from_entries(read_tree(alloc, root)?);
+    let info = zones_in(alloc, &three_zones(alloc)?)?;
     let zone = info.get("US/Pacific").ok_or("the zone is found")?;
     for (day, offset) in [(9, -28_800), (10, -25_200)] {
         let date = NaiveDate::from_ymd_opt(2025, 3, day).ok_or("a date")?;
@@ -91,22 +89,23 @@ fn tells_the_offsets_of_days(rt: HostRuntime) -> Result<(), Fail> {
 #[test]
 fn cuts_offsets_of_a_day(rt: HostRuntime) -> Result<(), Fail> {
     let alloc = rt.alloc();
-    // the number that the bundle has, the offset that the zone tells, and the one that is fixed
+    // the offset that the bundle has, and the one that is told, which is less than a day
     let rows = [
-        (86_399, 86_399, 86_399),
-        (86_400, 86_400, 86_399),
-        (2_147_483_647, i32::MAX, 86_399),
-        (4_294_880_897, -86_399, -86_399),
-        (4_294_880_896, -86_400, -86_399),
-        (2_147_483_648, i32::MIN, -86_399),
+        (86_399, 86_399),
+        (86_400, 86_399),
+        (i32::MAX, 86_399),
+        (-86_399, -86_399),
+        (-86_400, -86_399),
+        (i32::MIN, -86_399),
     ];
-    for (number, told, fixed) in rows {
-        let root = one_zone(alloc, zone(alloc, &[number, 0])?, ascii(alloc, b"001")?)?;
-        let info = ZoneInfo64::from_entries(read_tree(alloc, root)?);
-        let zone = info.get("Test/Plus2").ok_or("the zone is found")?;
-        let date = NaiveDate::from_ymd_opt(2025, 3, 9).ok_or("a date")?;
+    let date = NaiveDate::from_ymd_opt(2025, 3, 9).ok_or("a date")?;
+    for (number, fixed) in rows {
+        let offsets = [number, 0];
+        let fields = [("typeOffsets", Value::Numbers(&offsets))];
+        let info = loaded(alloc, &[worldwide("A", &fields)], &[])?;
+        let zone = info.get("A").ok_or("the zone is found")?;
         let offset = zone.offset_from_utc_date(&date);
-        assert_eq!(rt; offset.utc_offset().seconds(), told);
+        assert_eq!(rt; offset.utc_offset().seconds(), number);
         assert_eq!(rt; seconds(&offset), fixed);
     }
     Ok(())

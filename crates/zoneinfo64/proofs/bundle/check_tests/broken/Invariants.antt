@@ -1,4 +1,0 @@
-use Rattle.zoneinfo64.proofs.bundle.check_tests.broken.Given as goal
-
-abbrev pub ghosts-fault_from : goal.ghosts-fault_from
-ghosts-fault_from a = record { name = a.blank.name; parts = a.blank.parts }
