@@ -10,7 +10,6 @@ use Rattle.civil.specs.DateLaws.{YearsHaveTheirDays}
 use Rattle.civil.specs.Inside.LeapDays.{leap_days_to}
 use Rattle.civil.specs.Laws.{CountsYears}
 use Rattle.jiff_core.proofs.SignedLemmas.{signed_arith, one_part}
-use borrow.Author.Differences.{up, down}
 
 -- 1 for a leap year, and else 0
 abbrev pub leap_day : ℤ → ℕ
@@ -87,7 +86,7 @@ pub year_start-closed : (y x : ℤ) → x +ℤ pos 1 ≡ y → year_start y ≡ 
 year_start-closed y x e = rw e at (year_start-after x)
 
 -- leap_days_to lies near 97 of 400 years
-pub leap_days_bound : (y : ℤ) → (up (leap_days_to y) * 400 + down y * 97 ≤ down (leap_days_to y) * 400 + up y * 97 + 1000) × (down (leap_days_to y) * 400 + up y * 97 ≤ up (leap_days_to y) * 400 + down y * 97 + 1000)
+pub leap_days_bound : (y : ℤ) → ((pos 97 *ℤ y) ≤ℤ (pos 400 *ℤ leap_days_to y +ℤ pos 1000)) × ((pos 400 *ℤ leap_days_to y) ≤ℤ (pos 97 *ℤ y +ℤ pos 1000))
 unfolding leap_days_to
 leap_days_bound y = omega (arith, signed_arith)
 

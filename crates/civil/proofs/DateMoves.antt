@@ -20,7 +20,7 @@ date_inside y m d from to begun over is =
       not_over = omega (arith, signed_arith, day_of-is y m d, day_in_year y m d from to over, year_start-next y);
     } in
     let year = year_in_calendar y (day_of y m d) holds is in
-    record { first_year = year.0; last_year = year.1; first_month = from; last_month = to; first_day = begun; last_day = over }
+    record { first_year = year.first; last_year = year.last; first_month = from; last_month = to; first_day = begun; last_day = over }
 
 -- what the code computes of a date that is moved by n months
 pub record CodeMove (y : ℤ) (m d : ℕ) (day : ℤ) : Type 0 where

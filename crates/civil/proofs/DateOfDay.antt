@@ -3,7 +3,8 @@ use Rattle.std.proofs.Common.{◌≡◌, ℕ, zero, suc, ◌+◌, ◌-◌, ◌<�
 use Rattle.std.proofs.lemmas.Bool.{cases_lt}
 use Rattle.std.proofs.lemmas.Int.{by_lt_z}
 use Rattle.civil.specs.Calendar.{days_in_year, days_of_months, year_start, day_of}
-use Rattle.civil.specs.CivilDates.{HoldsDay, IsDate, IsDay, IsDateOf}
+use Rattle.civil.specs.CivilDates.{HoldsDay, IsDate, IsDay, IsDateOf, min_year, max_year}
+use Rattle.civil.specs.Inside.Years.{IsYear}
 use Rattle.jiff_core.proofs.SignedLemmas.{signed_arith, one_part}
 use Rattle.civil.proofs.CalendarLemmas.{year_of_months, day_of-is, first_start, last_start, year_start-next, starts_in_order, days_in_year_bound}
 
@@ -72,15 +73,15 @@ date_in_month day y r m first last h from below is =
     )
 
 -- the year of a day of the calendar is one of the calendar
-pub year_in_calendar : (y day : ℤ) → HoldsDay y day → IsDay day → (negsuc 262142 ≤ℤ y) × (y ≤ℤ pos 262142)
-year_in_calendar y day holds is = (
-  by_lt_z y (negsuc 262142)
-      (λ before. absurd (omega (arith, signed_arith, holds.not_over, is.first, first_start, starts_in_order (y +ℤ pos 1) (negsuc 262142) (omega (arith, signed_arith)))))
-      (λ from. from),
-  by_lt_z (pos 262142) y
+pub year_in_calendar : (y day : ℤ) → HoldsDay y day → IsDay day → IsYear y
+year_in_calendar y day holds is = record {
+  first = by_lt_z y min_year
+      (λ before. absurd (omega (arith, signed_arith, holds.not_over, is.first, first_start, starts_in_order (y +ℤ pos 1) min_year (omega (arith, signed_arith)))))
+      (λ from. from);
+  last = by_lt_z max_year y
       (λ after. absurd (omega (arith, signed_arith, holds.begun, is.last, last_start, starts_in_order (pos 262143) y (omega (arith, signed_arith)))))
-      (λ to. to),
-)
+      (λ to. to);
+}
 
 -- the date of a day number, by its year, the days of the year before it, and its month
 pub date_by_parts : (day y : ℤ) (r m before : ℕ) → IsDay day → HoldsDay y day → day ≡ year_start y +ℤ pos r → 1 ≤ m → m ≤ 12
@@ -90,7 +91,7 @@ date_by_parts day y r (suc n) before is holds e low high f from to =
     let index : suc n - 1 ≡ n = omega arith in
     let same : before ≡ days_of_months y n = f ∙ ap (days_of_months y) index in
     let years = year_in_calendar y day holds is in
-    let date = date_in_month day y r n years.0 years.1 (omega arith) (omega (arith, ap (days_of_months y) index)) to e in
+    let date = date_in_month day y r n years.first years.last (omega arith) (omega (arith, ap (days_of_months y) index)) to e in
     let d : suc (r - days_of_months y n) ≡ r - before + 1 = omega (arith, same) in
     let P : ℕ → Type 0 = λ d. IsDateOf day y (suc n) d in
     subst P d (record { exists = date.0; is = date.1 })

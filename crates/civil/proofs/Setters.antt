@@ -1,7 +1,8 @@
 -- What a setter answers, for any reading of the date that it changes.
-use Rattle.std.proofs.Common.{◌≡◌, ◌↔◌, ℕ, ◌-◌, Option, Some, None, IsSome, IfSome, refl, sym, arith, ℤ, pos, negsuc, ◌+ℤ◌, ◌≤ℤ◌}
+use Rattle.std.proofs.Common.{◌≡◌, ◌↔◌, ℕ, ◌-◌, Option, Some, None, IsSome, IfSome, refl, sym, arith, ℤ, pos, ◌+ℤ◌}
 use Rattle.civil.specs.Calendar.{year_start, day_of}
-use Rattle.civil.specs.CivilDates.{HoldsDay, IsDate, IsDateOf, IsDay}
+use Rattle.civil.specs.CivilDates.{HoldsDay, IsDate, IsDateOf, IsDay, min_year}
+use Rattle.civil.specs.Inside.Years.{IsYear}
 use Rattle.civil.specs.Ordinals.{IsOrdinal, IsOrdinalOf, ordinal_day}
 use Rattle.jiff_core.proofs.SignedLemmas.{signed_arith}
 use Rattle.civil.proofs.CalendarLemmas.{starts_in_order, year_start-next, first_start, last_start}
@@ -53,8 +54,8 @@ pub ordinal_once : (day y z : ℤ) (n k : ℕ) → IsOrdinalOf day y n → IsOrd
 ordinal_once day y z n k is there = year_once day y z (holds_ordinal day y n is) (holds_ordinal day z k there)
 
 -- the days of a year of the calendar are days of it
-pub ordinal_inside : (y : ℤ) (n : ℕ) → negsuc 262142 ≤ℤ y → y ≤ℤ pos 262142 → IsOrdinal y n → IsDay (ordinal_day y n)
-ordinal_inside y n low high is = record {
-  first = omega (arith, signed_arith, ordinal_day-is y n, first_start, starts_in_order (negsuc 262142) y low);
-  last = omega (arith, signed_arith, ordinal_day-is y n, is.first, is.last, year_start-next y, last_start, starts_in_order (y +ℤ pos 1) (pos 262143) (omega (arith, signed_arith, high)));
+pub ordinal_inside : (y : ℤ) (n : ℕ) → IsYear y → IsOrdinal y n → IsDay (ordinal_day y n)
+ordinal_inside y n year is = record {
+  first = omega (arith, signed_arith, ordinal_day-is y n, first_start, starts_in_order min_year y year.first);
+  last = omega (arith, signed_arith, ordinal_day-is y n, is.first, is.last, year_start-next y, last_start, starts_in_order (y +ℤ pos 1) (pos 262143) (omega (arith, signed_arith, year.last)));
 }

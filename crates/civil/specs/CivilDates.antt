@@ -2,10 +2,18 @@
 use Rattle.std.specs.Prelude.{◌≡◌, ℕ, ◌≤◌, ℤ, pos, negsuc, ◌+ℤ◌, ◌<ℤ◌, ◌≤ℤ◌}
 use Rattle.civil.specs.Calendar.{days_in_month, year_start, day_of}
 
+-- the first year of the calendar, -262143
+abbrev pub min_year : ℤ
+min_year = negsuc 262142
+
+-- and its last one, 262142
+abbrev pub max_year : ℤ
+max_year = pos 262142
+
 -- the calendar has this date
 pub record IsDate (y : ℤ) (m d : ℕ) : Type 0 where
-  pub first_year : negsuc 262142 ≤ℤ y
-  pub last_year : y ≤ℤ pos 262142
+  pub first_year : min_year ≤ℤ y
+  pub last_year : y ≤ℤ max_year
   pub first_month : 1 ≤ m
   pub last_month : m ≤ 12
   pub first_day : 1 ≤ d

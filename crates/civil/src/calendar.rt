@@ -2,6 +2,7 @@
 ghost use Rattle.std.specs.Prelude.{◌≡◌, ◌+◌, ◌-◌, ◌*◌, ◌/◌, ◌<◌, ◌≤◌, ◌↔◌, ℤ, pos, negsuc, ◌+ℤ◌, ◌*ℤ◌, ◌≤ℤ◌, ◌<ℤ◌, IsSome, IfSome};
 ghost use Rattle.civil.specs.Calendar.{is_leap_year, days_in_month, days_of_months, year_start, year_kind};
 ghost use Rattle.civil.specs.CivilDates.{HoldsDay};
+ghost use Rattle.civil.specs.Delta.{IsWithin};
 ghost use Rattle.civil.specs.Inside.LeapDays.{leap_days_to};
 
 // The day of a common year, from 0, on which each month begins.
@@ -30,8 +31,7 @@ pub(crate) fn month_length(year: i32, month: u32) -> u32
 
 // The leap days of the years up to this one, less those up to the year 0.
 fn leap_days(years: i64) -> i64
-    requires low { negsuc 3000000000 ≤ℤ years }
-    requires high { years ≤ℤ pos 3000000000 }
+    requires { IsWithin 3000000000 years }
     ensures { result ≡ leap_days_to years }
 {
     years.div_euclid(4) - years.div_euclid(100) + years.div_euclid(400)
@@ -40,8 +40,7 @@ fn leap_days(years: i64) -> i64
 /// The day number of 1 January of a year, in days since 1970-01-01. Any year of 32 bits will do.
 pub fn days_before_year(year: i32) -> i64
     ensures value { result ≡ year_start year }
-    ensures low { negsuc 799999999999 ≤ℤ result }
-    ensures high { result ≤ℤ pos 800000000000 }
+    ensures bound { IsWithin 800000000000 result }
 {
     let years = year as i64 - 1;
     365 * years + leap_days(years) - 719_162
@@ -79,8 +78,7 @@ fn years_in_cycle(days: u32) -> u32
 
 // Whole cycles of 400 years since the year 1, and the days that are left over.
 fn cycles(day: i64) -> (i64, u32)
-    requires low { negsuc 1000000000000 ≤ℤ day }
-    requires high { day ≤ℤ pos 1000000000000 }
+    requires { IsWithin 1000000000000 day }
     ensures parts { (day +ℤ pos 719162) ≡ (pos 146097 *ℤ result.0 +ℤ pos result.1) }
     ensures bound { result.1 < 146097 }
 {
@@ -90,8 +88,7 @@ fn cycles(day: i64) -> (i64, u32)
 
 // The year that holds a day.
 fn year_near(day: i64) -> i64
-    requires low { negsuc 1000000000000 ≤ℤ day }
-    requires high { day ≤ℤ pos 1000000000000 }
+    requires { IsWithin 1000000000000 day }
     ensures { HoldsDay result day }
 {
     let (cycles, days) = cycles(day);

@@ -1,6 +1,8 @@
-ghost use Rattle.std.specs.Prelude.{◌≡◌, ◌+◌, ◌-◌, ◌<◌, ◌≤◌, ◌↔◌, ℕ, ℤ, pos, negsuc, ◌+ℤ◌, ◌≤ℤ◌, IsSome, IfSome};
+ghost use Rattle.std.specs.Prelude.{◌≡◌, ◌+◌, ◌-◌, ◌<◌, ◌≤◌, ◌↔◌, ℕ, ℤ, pos, ◌+ℤ◌, IsSome, IfSome};
 ghost use Rattle.civil.specs.Calendar.{days_in_year, days_of_months, year_start, day_of, weekday_of};
+ghost use Rattle.civil.specs.Changes.{GivesYear, GivesMonth, GivesDay, GivesOrdinal, SomeIffYear, SomeIffMonth, SomeIffDay, SomeIffOrdinal};
 ghost use Rattle.civil.specs.CivilDates.{HoldsDay, IsDate, IsDay, IsDateOf};
+ghost use Rattle.civil.specs.Inside.Years.{IsYear};
 ghost use Rattle.civil.specs.Ordinals.{IsOrdinal, IsOrdinalOf, ordinal_day};
 ghost use Rattle.civil.specs.Weeks.{IsWeekOf, week_year, week_number};
 ghost use Rattle.civil.specs.Weekdays.{days_from_monday};
@@ -125,34 +127,26 @@ pub trait Datelike: Sized {
     /// The date with this year. 2020-02-29 with the year 2016 is 2016-02-29, and with the year 2019 `None`.
     fn with_year(&self, year: i32) -> Option<Self>
         ensures same { IfSome result (λ date. keeps self.now date) }
-        ensures value { (y : ℤ) (m d : ℕ) → IsDateOf (number self.now) y m d
-            → IfSome result (λ date. IsDateOf (number date) year m d) }
-        ensures some { settled self.now → (y : ℤ) (m d : ℕ) → IsDateOf (number self.now) y m d
-            → IsSome result ↔ IsDate year m d × takes self.now (day_of year m d) };
+        ensures value { GivesYear number year self.now result }
+        ensures some { SomeIffYear number settled takes year self.now result };
 
     /// The date with this month, from 1 to 12. 2020-01-31 with month 3 is 2020-03-31, and with month 2 or 13 `None`.
     fn with_month(&self, month: u32) -> Option<Self>
         ensures same { IfSome result (λ date. keeps self.now date) }
-        ensures value { (y : ℤ) (m d : ℕ) → IsDateOf (number self.now) y m d
-            → IfSome result (λ date. IsDateOf (number date) y month d) }
-        ensures some { settled self.now → (y : ℤ) (m d : ℕ) → IsDateOf (number self.now) y m d
-            → IsSome result ↔ IsDate y month d × takes self.now (day_of y month d) };
+        ensures value { GivesMonth number month self.now result }
+        ensures some { SomeIffMonth number settled takes month self.now result };
 
     /// The date with this day of the month, from 1. 2020-02-01 with day 29 is 2020-02-29, and with day 30 or 0 `None`.
     fn with_day(&self, day: u32) -> Option<Self>
         ensures same { IfSome result (λ date. keeps self.now date) }
-        ensures value { (y : ℤ) (m d : ℕ) → IsDateOf (number self.now) y m d
-            → IfSome result (λ date. IsDateOf (number date) y m day) }
-        ensures some { settled self.now → (y : ℤ) (m d : ℕ) → IsDateOf (number self.now) y m d
-            → IsSome result ↔ IsDate y m day × takes self.now (day_of y m day) };
+        ensures value { GivesDay number day self.now result }
+        ensures some { SomeIffDay number settled takes day self.now result };
 
     /// The date with this day of the year, from 1. 2020-02-29 with day 366 is 2020-12-31; 2019-02-28 has none.
     fn with_ordinal(&self, ordinal: u32) -> Option<Self>
         ensures same { IfSome result (λ date. keeps self.now date) }
-        ensures value { (y : ℤ) (n : ℕ) → IsOrdinalOf (number self.now) y n
-            → IfSome result (λ date. IsOrdinalOf (number date) y ordinal) }
-        ensures some { settled self.now → (y : ℤ) (n : ℕ) → IsOrdinalOf (number self.now) y n
-            → IsSome result ↔ IsOrdinal y ordinal × takes self.now (ordinal_day y ordinal) };
+        ensures value { GivesOrdinal number ordinal self.now result }
+        ensures some { SomeIffOrdinal number settled takes ordinal self.now result };
 
     /// The month, from 0 for January to 11 for December.
     final fn month0(&self) -> u32
@@ -178,10 +172,8 @@ pub trait Datelike: Sized {
     /// The date with this month, from 0 to 11. 2020-01-31 with month 2 is 2020-03-31.
     final fn with_month0(&self, month: u32) -> Option<Self>
         ensures same { IfSome result (λ date. keeps self.now date) }
-        ensures value { (y : ℤ) (m d : ℕ) → IsDateOf (number self.now) y m d
-            → IfSome result (λ date. IsDateOf (number date) y (month + 1) d) }
-        ensures some { settled self.now → (y : ℤ) (m d : ℕ) → IsDateOf (number self.now) y m d
-            → IsSome result ↔ IsDate y (month + 1) d × takes self.now (day_of y (month + 1) d) }
+        ensures value { GivesMonth number (month + 1) self.now result }
+        ensures some { SomeIffMonth number settled takes (month + 1) self.now result }
     {
         if month >= 12 {
             None
@@ -193,10 +185,8 @@ pub trait Datelike: Sized {
     /// The date with this day of the month, from 0. 2020-02-01 with day 28 is 2020-02-29.
     final fn with_day0(&self, day: u32) -> Option<Self>
         ensures same { IfSome result (λ date. keeps self.now date) }
-        ensures value { (y : ℤ) (m d : ℕ) → IsDateOf (number self.now) y m d
-            → IfSome result (λ date. IsDateOf (number date) y m (day + 1)) }
-        ensures some { settled self.now → (y : ℤ) (m d : ℕ) → IsDateOf (number self.now) y m d
-            → IsSome result ↔ IsDate y m (day + 1) × takes self.now (day_of y m (day + 1)) }
+        ensures value { GivesDay number (day + 1) self.now result }
+        ensures some { SomeIffDay number settled takes (day + 1) self.now result }
     {
         if day >= 31 {
             None
@@ -208,11 +198,8 @@ pub trait Datelike: Sized {
     /// The date with this day of the year, from 0. 2020-02-29 with day 365 is 2020-12-31.
     final fn with_ordinal0(&self, ordinal: u32) -> Option<Self>
         ensures same { IfSome result (λ date. keeps self.now date) }
-        ensures value { (y : ℤ) (n : ℕ) → IsOrdinalOf (number self.now) y n
-            → IfSome result (λ date. IsOrdinalOf (number date) y (ordinal + 1)) }
-        ensures some { settled self.now → (y : ℤ) (n : ℕ) → IsOrdinalOf (number self.now) y n
-            → IsSome result
-            ↔ IsOrdinal y (ordinal + 1) × takes self.now (ordinal_day y (ordinal + 1)) }
+        ensures value { GivesOrdinal number (ordinal + 1) self.now result }
+        ensures some { SomeIffOrdinal number settled takes (ordinal + 1) self.now result }
     {
         if ordinal >= 366 {
             None
@@ -275,8 +262,7 @@ pub(crate) fn year_month_day(day: i64) -> (i32, u32, u32)
 fn year_and_ordinal(day: i64) -> (i32, u32)
     requires { IsDay day }
     ensures place { IsOrdinalOf day result.0 result.1 }
-    ensures first { negsuc 262142 ≤ℤ result.0 }
-    ensures last { result.0 ≤ℤ pos 262142 }
+    ensures year { IsYear result.0 }
 {
     let year = year_in(day);
     (year, ordinal_in(year, day) as u32 + 1)
@@ -284,8 +270,7 @@ fn year_and_ordinal(day: i64) -> (i32, u32)
 
 // The date of a day of a year, from 1; `None` exactly where the calendar has none.
 fn date_of_ordinal(year: i32, ordinal: u32) -> Option<NaiveDate>
-    requires first { negsuc 262142 ≤ℤ year }
-    requires last { year ≤ℤ pos 262142 }
+    requires { IsYear year }
     ensures some { IsSome result ↔ IsOrdinal year ordinal }
     ensures value { IfSome result (λ date. date ≡ ordinal_day year ordinal) }
 {

@@ -1,6 +1,7 @@
-ghost use Rattle.std.specs.Prelude.{◌≡◌, pos, negsuc, ◌≤ℤ◌};
+ghost use Rattle.std.specs.Prelude.{◌≡◌};
 ghost use Rattle.civil.specs.CivilDates.{IsDay};
 ghost use Rattle.civil.specs.Calendar.{thursday_of};
+ghost use Rattle.civil.specs.Delta.{IsWithin};
 
 use crate::calendar::year_of_day;
 use crate::date::ordinal_in;
@@ -38,8 +39,7 @@ impl IsoWeek {
 fn thursday_in(day: i64) -> i64
     requires { IsDay day }
     ensures value { result ≡ thursday_of day }
-    ensures low { negsuc 96465300 ≤ℤ result }
-    ensures high { result ≤ℤ pos 95026300 }
+    ensures bound { IsWithin 96465300 result }
 {
     day + 3 - (day + 3).rem_euclid(7)
 }

@@ -1,6 +1,6 @@
 ghost use Rattle.std.specs.Prelude.{◌≡◌, ℕ, ℤ, pos, negsuc};
 ghost use Rattle.civil.specs.Calendar.{day_of};
-ghost use Rattle.civil.specs.CivilDates.{IsDateOf};
+ghost use Rattle.civil.specs.CivilDates.{IsDateOf, min_year, max_year};
 ghost use Rattle.civil.specs.DateLaws.{MonthDaysAreDays, YearsHaveTheirDays};
 ghost use Rattle.civil.specs.Dates.{date_text, ymd_text};
 ghost use Rattle.civil.specs.Laws.{CountsYears, DatesAreDays, KindsOfYear, YearsRepeat};
@@ -39,9 +39,9 @@ pub fn dates_are_written()
 /// The first and the last date, with their day numbers.
 pub fn ends() -> (NaiveDate, NaiveDate)
     ensures first { result.0 ≡ negsuc 96465291 }
-    ensures first_date { result.0 ≡ day_of (negsuc 262142) 1 1 }
+    ensures first_date { result.0 ≡ day_of min_year 1 1 }
     ensures last { result.1 ≡ pos 95026236 }
-    ensures last_date { result.1 ≡ day_of (pos 262142) 12 31 }
+    ensures last_date { result.1 ≡ day_of max_year 12 31 }
 {
     (NaiveDate::MIN, NaiveDate::MAX)
 }

@@ -1,7 +1,8 @@
 //! Dates moved by days, by months and by lengths of time.
-ghost use Rattle.std.specs.Prelude.{◌≡◌, ◌≤◌, ◌↔◌, ℕ, ℤ, pos, negsuc, neg_ℤ, ◌+ℤ◌, ◌-ℤ◌, ◌*ℤ◌, ◌≤ℤ◌, int_div, IsSome, IfSome};
+ghost use Rattle.std.specs.Prelude.{◌≡◌, ◌≤◌, ◌↔◌, ℕ, ℤ, pos, neg_ℤ, ◌+ℤ◌, ◌-ℤ◌, ◌*ℤ◌, int_div, IsSome, IfSome};
 ghost use Rattle.civil.specs.CivilDates.{IsDay, IsDateOf};
-ghost use Rattle.civil.specs.Delta.{day_nanos};
+ghost use Rattle.civil.specs.Inside.Years.{IsYear};
+ghost use Rattle.civil.specs.Delta.{IsWithin, day_nanos};
 ghost use Rattle.civil.specs.Months.{months_on, moved_year, moved_month};
 
 use crate::calendar::month_length;
@@ -12,12 +13,10 @@ use crate::time_delta::TimeDelta;
 
 // The month so many months after a month of the calendar, with its year.
 fn month_after(year: i32, month: u32, months: i64) -> (i32, u32)
-    requires first { negsuc 262142 ≤ℤ year }
-    requires last { year ≤ℤ pos 262142 }
+    requires year { IsYear year }
     requires from { 1 ≤ month }
     requires to { month ≤ 12 }
-    requires low { negsuc 4294967295 ≤ℤ months }
-    requires high { months ≤ℤ pos 4294967295 }
+    requires months { IsWithin 4294967295 months }
     ensures year { result.0 ≡ moved_year year month months }
     ensures month { result.1 ≡ moved_month year month months }
     ensures in_year { (1 ≤ result.1) × (result.1 ≤ 12) }
@@ -67,8 +66,7 @@ impl NaiveDate {
 
     // The date so many months later, or earlier where they are below 0.
     fn moved_by_months(self, months: i64) -> Option<NaiveDate>
-        requires low { negsuc 4294967295 ≤ℤ months }
-        requires high { months ≤ℤ pos 4294967295 }
+        requires { IsWithin 4294967295 months }
         ensures some { (y : ℤ) (m d : ℕ) → IsDateOf self y m d
             → IsSome result ↔ IsDay (months_on y m d months) }
         ensures value { (y : ℤ) (m d : ℕ) → IsDateOf self y m d

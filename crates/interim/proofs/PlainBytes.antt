@@ -3,7 +3,8 @@ use Rattle.std.proofs.Common.{◌≡◌, ℕ, ◌≤◌, List, [], ◌∷◌, �
 use Rattle.std.proofs.lemmas.Bool.Decides.{nat_tests}
 use Rattle.std.specs.List.{prefix_len}
 use Rattle.interim.specs.TokenKinds.{Number, Dash, Colon}
-use Rattle.interim.specs.Characters.{is_blank, is_digit, is_letter, decimal_from}
+use Rattle.std.specs.Char.{is_ascii_digit}
+use Rattle.interim.specs.Characters.{is_blank, is_letter, decimal_from}
 use Rattle.interim.specs.Tokens.{more, kind_of, split_at, tokens, tokens_of, phrase_tokens}
 use Rattle.interim.specs.PlainDates.{kinds, Dashed, spelled_date}
 use Rattle.interim.specs.PlainTimes.{Minutes, spelled_time}
@@ -14,18 +15,18 @@ use Rattle.interim.specs.Parts.{date_of, clock}
 use Rattle.interim.proofs.PlainReading.{form_read}
 use Rattle.interim.proofs.Tail.{tokens_split}
 
-pub digit_is : (b : ℕ) → 48 ≤ b → b ≤ 57 → is_digit b ≡ true
+pub digit_is : (b : ℕ) → 48 ≤ b → b ≤ 57 → is_ascii_digit b ≡ true
 digit_is b low high = grind (arith, nat_tests)
 
-pub digit_no_blank : (b : ℕ) → is_digit b ≡ true → is_blank b ≡ false
+pub digit_no_blank : (b : ℕ) → is_ascii_digit b ≡ true → is_blank b ≡ false
 digit_no_blank b e = grind (arith, nat_tests)
 
-digit_no_letter : (b : ℕ) → is_digit b ≡ true → is_letter b ≡ false
+digit_no_letter : (b : ℕ) → is_ascii_digit b ≡ true → is_letter b ≡ false
 digit_no_letter b e = grind (arith, nat_tests)
 
 -- two digits
 abbrev pub Pair : ℕ → ℕ → Type 0
-Pair a b = (is_digit a ≡ true) × (is_digit b ≡ true)
+Pair a b = (is_ascii_digit a ≡ true) × (is_ascii_digit b ≡ true)
 
 -- and the number that they write
 abbrev pub pair : ℕ → ℕ → ℕ
@@ -40,12 +41,12 @@ unfolding split_at
 first_kind total b bs e = rw (tokens_split total (b ∷ bs), e) refl
 
 -- two digits, behind which no other stands
-two_digits : (total a b : ℕ) (bs : List ℕ) → Pair a b → prefix_len is_digit bs ≡ 0
+two_digits : (total a b : ℕ) (bs : List ℕ) → Pair a b → prefix_len is_ascii_digit bs ≡ 0
     → kinds (tokens_of total (a ∷ b ∷ bs)) ≡ Number (pair a b) ∷ kinds (tokens_of total bs)
 unfolding more kind_of
 two_digits total a b bs p last = first_kind total a (b ∷ bs) (digit_no_blank a p.0) ∙ rw (p.0, p.1, last) refl
 
-four_digits : (total a b c d : ℕ) (bs : List ℕ) → Pair a b → Pair c d → prefix_len is_digit bs ≡ 0
+four_digits : (total a b c d : ℕ) (bs : List ℕ) → Pair a b → Pair c d → prefix_len is_ascii_digit bs ≡ 0
     → kinds (tokens_of total (a ∷ b ∷ c ∷ d ∷ bs)) ≡ Number (decimal_from 0 (a ∷ b ∷ c ∷ d ∷ [])) ∷ kinds (tokens_of total bs)
 unfolding more kind_of
 four_digits total a b c d bs p q last = first_kind total a (b ∷ c ∷ d ∷ bs) (digit_no_blank a p.0) ∙ rw (p.0, p.1, q.0, q.1, last) refl
@@ -74,16 +75,16 @@ pub between_there : (b : ℕ) → (b ≢ 32 → b ≡ 84) → (has_t : Bool) × 
 between_there b h = there_case b (eqb b 32) refl h
 
 -- a T, behind which no letter stands, or a blank
-between_first : (has_t : Bool) (total b : ℕ) (bs : List ℕ) → is_digit b ≡ true → kinds (tokens_of total (between has_t ∷ b ∷ bs)) ≡ spelled_t has_t ++ kinds (tokens_of total (b ∷ bs))
+between_first : (has_t : Bool) (total b : ℕ) (bs : List ℕ) → is_ascii_digit b ≡ true → kinds (tokens_of total (between has_t ∷ b ∷ bs)) ≡ spelled_t has_t ++ kinds (tokens_of total (b ∷ bs))
 unfolding more kind_of
 between_first true total b bs e = first_kind total 84 (b ∷ bs) refl ∙ rw (digit_no_letter b e) refl
 between_first false total b bs e = ap kinds (blank_first total (b ∷ bs))
 
-between_no_digit : (has_t : Bool) (bs : List ℕ) → prefix_len is_digit (between has_t ∷ bs) ≡ 0
+between_no_digit : (has_t : Bool) (bs : List ℕ) → prefix_len is_ascii_digit (between has_t ∷ bs) ≡ 0
 between_no_digit true bs = refl
 between_no_digit false bs = refl
 
-date_kinds : (total y1 y2 y3 y4 m1 m2 d1 d2 : ℕ) (bs : List ℕ) → Pair y1 y2 → Pair y3 y4 → Pair m1 m2 → Pair d1 d2 → prefix_len is_digit bs ≡ 0
+date_kinds : (total y1 y2 y3 y4 m1 m2 d1 d2 : ℕ) (bs : List ℕ) → Pair y1 y2 → Pair y3 y4 → Pair m1 m2 → Pair d1 d2 → prefix_len is_ascii_digit bs ≡ 0
     → kinds (tokens_of total (y1 ∷ y2 ∷ y3 ∷ y4 ∷ 45 ∷ m1 ∷ m2 ∷ 45 ∷ d1 ∷ d2 ∷ bs))
     ≡ spelled_date (Dashed (decimal_from 0 (y1 ∷ y2 ∷ y3 ∷ y4 ∷ [])) (pair m1 m2) (pair d1 d2)) ++ kinds (tokens_of total bs)
 date_kinds total y1 y2 y3 y4 m1 m2 d1 d2 bs p q r s last =

@@ -23,7 +23,8 @@ use Rattle.interim.specs.WordHeads.{word_head}
 use Rattle.interim.specs.OpenHours.{after_hour}
 use Rattle.interim.specs.TimePart.{time_part, whole_time}
 use Rattle.interim.specs.TokenKinds.{Token, Kind, Number, Word}
-use Rattle.interim.specs.Characters.{decimal_from, is_blank, is_digit, is_letter, run_len}
+use Rattle.std.specs.Char.{is_ascii_digit}
+use Rattle.interim.specs.Characters.{decimal_from, is_blank, is_letter, run_len}
 use Rattle.interim.specs.Tokens.{more, kind_of, split_at, tokens, tokens_of}
 use Rattle.interim.specs.CalendarNames.{counted, weekday_from}
 use Rattle.interim.specs.Words.{day_of_word, direction_of, half_of, is_ago, month_of, unit_of, weekday_of}
@@ -36,7 +37,7 @@ use Rattle.interim.proofs.PlainReading.{apart, placed_kinds}
 
 -- ---- tokens
 
-number_first : (total b n : ℕ) (bs : List ℕ) → is_digit b ≡ true → n ≡ min 3 (run_len is_digit bs)
+number_first : (total b n : ℕ) (bs : List ℕ) → is_ascii_digit b ≡ true → n ≡ min 3 (run_len is_ascii_digit bs)
     → kinds (tokens_of total (b ∷ bs)) ≡ Number (decimal_from 0 (b ∷ take n bs)) ∷ kinds (tokens_of total (drop n bs))
 unfolding more kind_of
 number_first total b n bs e len = first_kind total b bs (digit_no_blank b e) ∙ rw (e, ← len) refl
@@ -44,7 +45,7 @@ number_first total b n bs e len = first_kind total b bs (digit_no_blank b e) ∙
 letter_no_blank : (b : ℕ) → is_letter b ≡ true → is_blank b ≡ false
 letter_no_blank b e = grind (arith, nat_tests)
 
-letter_no_digit : (b : ℕ) → is_letter b ≡ true → is_digit b ≡ false
+letter_no_digit : (b : ℕ) → is_letter b ≡ true → is_ascii_digit b ≡ false
 letter_no_digit b e = grind (arith, nat_tests)
 
 word_case : (total n b : ℕ) (bs : List ℕ) (p : Bool) → is_letter b ≡ p → n ≡ length (cond p (b ∷ take_while is_letter bs) []) → 1 ≤ n
@@ -152,8 +153,8 @@ kinds_in total bs = kinds (tokens_of total bs)
 
 -- a weekday, a blank, an hour, and am or pm behind it
 pub weekday_is : (phrase rest after last : List ℕ) (len n hour day : ℕ) (half : Half) → rest ≡ drop len phrase → after ≡ drop 2 rest → last ≡ drop n after
-    → len ≡ run_len is_letter phrase → Some day ≡ weekday_of (take len phrase) → 2 ≤ length rest → get_or rest 0 0 ≡ 32 → is_digit (get_or rest 1 0) ≡ true
-    → n ≡ min 3 (run_len is_digit after) → hour ≡ decimal_from 0 (get_or rest 1 0 ∷ take n after) → IsHalf last half
+    → len ≡ run_len is_letter phrase → Some day ≡ weekday_of (take len phrase) → 2 ≤ length rest → get_or rest 0 0 ≡ 32 → is_ascii_digit (get_or rest 1 0) ≡ true
+    → n ≡ min 3 (run_len is_ascii_digit after) → hour ≡ decimal_from 0 (get_or rest 1 0 ∷ take n after) → IsHalf last half
     → IsReadAs phrase (Some (FromName (by_name.WeekDay day) Here)) (Some (clock (shifted half hour) 0 0 0))
 weekday_is phrase rest after last len n hour day half is_rest is_after is_last is_len is_day some blank digit is_n is_hour is_half =
     let total = length phrase in
@@ -167,7 +168,7 @@ weekday_is phrase rest after last len n hour day half is_rest is_after is_last i
 
 -- a number, a blank, a unit, and ago behind it
 pub back_is : (phrase after rest words last : List ℕ) (n count len : ℕ) (unit : Interval) → 1 ≤ length phrase → after ≡ drop 1 phrase → rest ≡ drop n after → 1 ≤ length rest
-    → words ≡ drop 1 rest → last ≡ drop len words → is_digit (get_or phrase 0 0) ≡ true → n ≡ min 3 (run_len is_digit after) → count ≡ decimal_from 0 (get_or phrase 0 0 ∷ take n after)
+    → words ≡ drop 1 rest → last ≡ drop len words → is_ascii_digit (get_or phrase 0 0) ≡ true → n ≡ min 3 (run_len is_ascii_digit after) → count ≡ decimal_from 0 (get_or phrase 0 0 ∷ take n after)
     → get_or rest 0 0 ≡ 32 → len ≡ run_len is_letter words → last ≡ codes " ago"
     → (let none : Option ℕ = None in month_of (take len words) ≡ none) → Some unit ≡ unit_of (take len words)
     → IsReadAs phrase (Some (Relative (scaled unit (neg_ℤ (pos count))))) None

@@ -1,7 +1,8 @@
 -- The tokens of a phrase, with their places in bytes (docs/GRAMMAR.md, "Tokens").
 use Rattle.std.specs.Prelude.{ℕ, zero, suc, ◌-◌, Bool, List, [], ◌∷◌, length, Option, Some, None, take, drop, min, nat_le, ◌==◌, if◌then◌else◌}
 use Rattle.interim.specs.TokenKinds.{Kind, Number, Word, Dash, Slash, Colon, Dot, Comma, Plus, Unknown, Token}
-use Rattle.interim.specs.Characters.{is_digit, is_letter, continues, run_len, skip, decimal_from}
+use Rattle.std.specs.Char.{is_ascii_digit}
+use Rattle.interim.specs.Characters.{is_letter, continues, run_len, skip, decimal_from}
 
 -- the token of one character that is no digit, letter or blank
 abbrev pub mark : ℕ → Kind
@@ -20,13 +21,13 @@ is_ascii b = nat_le b 127
 -- how many bytes after b belong to its token: up to three more digits, all more letters, the rest of a character
 unfoldable pub more : ℕ → List ℕ → ℕ
 more b bs =
-    if is_digit b then min 3 (run_len is_digit bs)
+    if is_ascii_digit b then min 3 (run_len is_ascii_digit bs)
     else (if is_letter b then run_len is_letter bs
     else (if is_ascii b then 0 else run_len continues bs))
 
 -- a number, a word or a mark, by the first byte
 unfoldable pub kind_of : ℕ → List ℕ → Kind
-kind_of b text = if is_digit b then Number (decimal_from 0 text) else (if is_letter b then Word text else mark b)
+kind_of b text = if is_ascii_digit b then Number (decimal_from 0 text) else (if is_letter b then Word text else mark b)
 
 -- the token at the front of what is left of a text of so many bytes, and what is left behind it
 unfoldable pub split_at : ℕ → List ℕ → Option (Token × List ℕ)

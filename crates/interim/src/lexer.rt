@@ -1,5 +1,6 @@
 ghost use Rattle.std.specs.Prelude.{◌≡◌, ℕ, IsTrue, List, ◌∷◌, ◌<◌, ◌≤◌, [], length, take, min, Ok, Some, IfNone, if◌then◌else◌};
-ghost use Rattle.interim.specs.Characters.{is_blank, is_digit, is_letter, continues, run_len, skip, decimal_from};
+ghost use Rattle.std.specs.Char.{is_ascii_digit};
+ghost use Rattle.interim.specs.Characters.{is_blank, is_letter, continues, run_len, skip, decimal_from};
 ghost use Rattle.interim.specs.Tokens.{mark, more, kind_of, tokens_of};
 ghost use Rattle.interim.specs.Inside.Reading.{Reads};
 ghost use Rattle.interim.specs.Inside.Seen.{front_kind, seen_kind_option, seen_option, tokens_left};
@@ -53,9 +54,9 @@ enum Front {
 
 // Up to four digits as a number, and how many bytes they have after the first.
 pub fn number(first: u8, after: &[u8]) -> (u16, usize)
-    requires { IsTrue (is_digit first) }
+    requires { IsTrue (is_ascii_digit first) }
     ensures value { result.0 ≡ decimal_from 0 (first ∷ take result.1 after.now) }
-    ensures len { result.1 ≡ min 3 (run_len is_digit after.now) }
+    ensures len { result.1 ≡ min 3 (run_len is_ascii_digit after.now) }
 {
     let mut value = u16::from(first - b'0');
     let mut len = 0;

@@ -2,7 +2,8 @@
 ghost use Rattle.std.specs.Prelude.{◌≡◌, ◌<◌, [], ◌∷◌, Some, None, IsTrue, IfSome};
 ghost use Rattle.interim.specs.Inside.ReadAs.{IsReadAs, half_text};
 ghost use Rattle.interim.specs.PlainFormLaws.{IsReadAsNamed};
-ghost use Rattle.interim.specs.Characters.{is_digit, decimal_from};
+ghost use Rattle.std.specs.Char.{is_ascii_digit};
+ghost use Rattle.interim.specs.Characters.{decimal_from};
 
 use crate::date_part::times;
 use crate::lexer::{letters, number};
@@ -15,8 +16,8 @@ use crate::words::{Half, month_of, unit_of, weekday_of};
 // The number that two digits write.
 #[inline(always)]
 fn two(a: u8, b: u8) -> u32
-    requires tens { IsTrue (is_digit a) }
-    requires ones { IsTrue (is_digit b) }
+    requires tens { IsTrue (is_ascii_digit a) }
+    requires ones { IsTrue (is_ascii_digit b) }
     ensures value { result ≡ decimal_from 0 (a ∷ b ∷ []) }
     ensures bound { result < 100 }
 {

@@ -3,6 +3,7 @@ use Rattle.std.proofs.Common.{◌≡◌, ℕ, ◌+◌, ◌*◌, ◌≤◌, true,
 use Rattle.std.specs.Prelude.{slice_index}
 use Rattle.std.proofs.lemmas.Bool.{le-leb}
 use Rattle.std.proofs.lemmas.List.{get_or_at}
+use Rattle.resb_tree.specs.Words.{value_count}
 use Rattle.resb_tree.specs.declared.resource.Resource.{Resource}
 use Rattle.resb_tree.specs.Keys.{stands_in}
 use Rattle.resb_tree.specs.Weight.{weight}
@@ -10,7 +11,7 @@ use Rattle.resb_tree.specs.Bodies.{Body, body}
 use Rattle.resb_tree.specs.Tree.{tree_at, denoted}
 use Rattle.resb_tree.specs.Header.{body_of, tree_of}
 use Rattle.resb.specs.TreeKeys.{keys_met, key_pool, pool_bytes, key_place}
-use Rattle.resb.specs.Packing.{pack_bytes}
+use Rattle.resb.specs.Packing.{pack_bytes, most_unit}
 use Rattle.resb.specs.LaidTrees.{laid}
 use Rattle.resb.specs.WrittenFiles.{most_of, most_entries, header, written_body, written}
 use Rattle.resb.specs.BadKeys.{all_keys, has_bad_key}
@@ -48,7 +49,7 @@ header_read root keys_end end most rest low mid high all =
     rw (few, room, a, b, c, d, e) refl
 
 -- every key that is met is read at its place
-all_placed : (t : Resource) (b : Body) → all_keys (keys_met t) ≡ true → StandIn b.words 8 (pack_bytes (pool_bytes (key_pool t))) → 8 + length (pack_bytes (pool_bytes (key_pool t))) ≤ b.keys_end → most_of (places_of (key_pool t) 32) ≤ 65535
+all_placed : (t : Resource) (b : Body) → all_keys (keys_met t) ≡ true → StandIn b.words 8 (pack_bytes (pool_bytes (key_pool t))) → 8 + length (pack_bytes (pool_bytes (key_pool t))) ≤ b.keys_end → most_of (places_of (key_pool t) 32) ≤ most_unit
     → Each (Placed b (key_place (key_pool t) 32)) (keys_met t)
 all_placed t b good h le few =
     let pool = key_pool t in
@@ -74,7 +75,7 @@ root_laid t = laid t (key_place (key_pool t) 32) (keys_stop t)
 abbrev stop : Resource → ℕ
 stop t = keys_stop t + length (root_laid t).0
 
-body_read : (t : Resource) → has_typed_parts t ≡ true → has_bad_key t ≡ false → Kept t → stop t ≤ 268435456 → denoted (body (written_body t) (keys_stop t) (keys_stop t) (stop t)) (8 * length (written t)) ≡ Some t
+body_read : (t : Resource) → has_typed_parts t ≡ true → has_bad_key t ≡ false → Kept t → stop t ≤ value_count → denoted (body (written_body t) (keys_stop t) (keys_stop t) (stop t)) (8 * length (written t)) ≡ Some t
 unfolding denoted written_body
 body_read t typed good room fits =
     let root = root_laid t in
@@ -103,7 +104,7 @@ of_body : (words : List ℕ) (b : Body) → body_of words ≡ Some b → tree_of
 unfolding tree_of
 of_body words b h = rw h refl
 
-stop_low : (t : Resource) → Kept t → stop t ≤ 268435456
+stop_low : (t : Resource) → Kept t → stop t ≤ value_count
 unfolding written written_body
 stop_low t room = omega (arith, room.words, length-append (key_words t) (root_laid t).0)
 

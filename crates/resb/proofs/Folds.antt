@@ -1,7 +1,8 @@
 -- What folds over a tree give at each variant.
-use Rattle.std.proofs.Common.{◌≡◌, ℕ, suc, List, [], ◌∷◌, length, refl, sym, ap, ◌∙◌}
+use Rattle.std.proofs.Common.{◌≡◌, ℕ, suc, List, [], ◌∷◌, length, refl, sym, ap, ◌∙◌, Bool, ◌||◌, ◌&&◌}
 use Rattle.std.proofs.lemmas.List.{append-nil}
 use Rattle.std.specs.Prelude.{map}
+use Rattle.std.specs.List.{list_any, list_all}
 use Rattle.resb_tree.specs.declared.resource.Resource.{Resource, fold-Resource, fold-roll-Resource}
 use Rattle.resb_tree.specs.declared.resource.Resource.TheOpen.{Resource-F}
 use Rattle.resb_tree.specs.declared.resource.Resource.TheVariants as r
@@ -37,12 +38,25 @@ pub told-values : {A : Type 0} (f : Resource → A) (es : List (List ℕ × Reso
 told-values f [] = refl
 told-values f (e ∷ es) = ap (λ (vs : List _). f e.1 ∷ vs) (told-values f es)
 
+-- tests of what is told of children
+pub any-map : {A : Type 0} (f : A → Bool) (xs : List A) → list_any (λ b. b) (map f xs) ≡ list_any f xs
+any-map f [] = refl
+any-map f (x ∷ xs) = ap (λ b. f x || b) (any-map f xs)
+
+pub any-told : (f : Resource → Bool) (es : List (List ℕ × Resource)) → list_any (λ (e : List ℕ × Bool). e.1) (told_values f es) ≡ list_any f (values_in es)
+any-told f [] = refl
+any-told f (e ∷ es) = ap (λ b. f e.1 || b) (any-told f es)
+
+pub all-told : (f : Resource → Bool) (es : List (List ℕ × Resource)) → list_all (λ (e : List ℕ × Bool). e.1) (told_values f es) ≡ list_all f (values_in es)
+all-told f [] = refl
+all-told f (e ∷ es) = ap (λ b. f e.1 && b) (all-told f es)
+
 pub length-told : {A : Type 0} (f : Resource → A) (es : List (List ℕ × Resource)) → length (told_values f es) ≡ length es
 length-told f [] = refl
 length-told f (e ∷ es) = ap suc (length-told f es)
 
 -- what a fold gives, by the layer
-pub ruleset layers = (fold-Text, fold-Bytes, fold-Integers, fold-Integer, fold-Array, fold-Table, told-keys, told-values)
+pub ruleset layers = (fold-Text, fold-Bytes, fold-Integers, fold-Integer, fold-Array, fold-Table, told-keys, told-values, any-map, any-told)
 
 -- ---- keys
 

@@ -6,6 +6,7 @@ use Rattle.resb_tree.specs.declared.resource.Resource.{Resource}
 use Rattle.resb_tree.specs.declared.resource.Resource.TheVariants as r
 use Rattle.resb.specs.Entries.{values_in}
 use Rattle.resb.specs.LaidTrees.{laid, lay_all}
+use Rattle.resb.specs.Packing.{most_unit}
 use Rattle.resb.specs.Plan.{most_words, Fits}
 use Rattle.resb.specs.WrittenFiles.{most_of}
 use Rattle.resb.specs.Inside.Laying.{IsLaid, Stands}
@@ -32,7 +33,7 @@ empty_table [] places base old words told n s = empty_laid (r.Table []) 53687091
 empty_table (e ∷ es) places base old words told n s = absurd (omega arith)
 
 -- a parent is laid behind its parts
-pub behind : (t : Resource) (xs : List Resource) (names : List (List ℕ)) (places : List ℕ → ℕ) (own : List ℕ) (first base : ℕ) (old words told pushed new : List ℕ) (item : ℕ) → IsParent t xs names → LaidOver t xs places own first → length names ≤ 65535 → most_of (map places names) ≤ 65535
+pub behind : (t : Resource) (xs : List Resource) (names : List (List ℕ)) (places : List ℕ → ℕ) (own : List ℕ) (first base : ℕ) (old words told pushed new : List ℕ) (item : ℕ) → IsParent t xs names → LaidOver t xs places own first → length names ≤ most_unit → most_of (map places names) ≤ most_unit
     → Stands xs places base old words told → pushed ≡ words ++ own → new ≡ pushed ++ told → item ≡ first + (base + length words) → base + length words + (length own + length xs) ≤ most_words → IsLaid t places base old new item
 behind t xs names places own first base old words told pushed new item p l few low s u n i room =
     let at = base + length old in

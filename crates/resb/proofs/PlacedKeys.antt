@@ -1,12 +1,12 @@
 -- The keys of a table, gone through one after the other.
 use Rattle.std.proofs.Common.{◌≡◌, ℕ, ◌+◌, ◌<◌, true, false, List, [], ◌∷◌, ◌++◌, length, drop, get_or, Option, Some, None, inl, inr, refl, ◌∙◌, Bor, append_assoc, arith}
-use Rattle.std.specs.Prelude.{map}
+use Rattle.std.specs.Prelude.{map, sum_by}
 use Rattle.std.specs.Str.{bytes_eq}
 use Rattle.std.proofs.lemmas.Bool.{and_parts, and_from, false≢true}
 use Rattle.std.proofs.lemmas.List.{at_drop_more}
+use Rattle.std.proofs.lemmas.List.Sums.{sum_by-cons}
 use Rattle.std.proofs.lemmas.Slice.Eq.{bytes_eq-Decides}
 use Rattle.resb_tree.specs.Keys.{stands_in}
-use Rattle.resb_tree.specs.Weight.{sum_of}
 use Rattle.resb.specs.Pool.{all_in, bare}
 use Rattle.resb.specs.Inside.Pooling.{place_told}
 use Rattle.resb.specs.BadKeys.{is_key, all_keys}
@@ -24,8 +24,8 @@ units_past places keys d i lt units new all place p n h =
     let g : units ++ (places k ∷ rest) ≡ all = rw (behind_is keys d i lt) at h in
     rw (n, p) (append_assoc units (places k ∷ []) rest ∙ g)
 
-pub sum_past : (keys : List (Bor (List ℕ))) (d : Bor (List ℕ)) (i : ℕ) → i < length keys → sum_of (map length (bare (drop i keys))) ≡ length (get_or keys i d).now + sum_of (map length (bare (drop (i + 1) keys)))
-sum_past keys d i lt = at_drop_more (λ ks. sum_of (map length (bare ks))) keys i d lt
+pub sum_past : (keys : List (Bor (List ℕ))) (d : Bor (List ℕ)) (i : ℕ) → i < length keys → sum_by length (bare (drop i keys)) ≡ length (get_or keys i d).now + sum_by length (bare (drop (i + 1) keys))
+sum_past keys d i lt = at_drop_more (λ ks. sum_by length (bare ks)) keys i d lt ∙ sum_by-cons length (get_or keys i d).now (bare (drop (i + 1) keys))
 
 pub most_past : (places : List ℕ → ℕ) (keys : List (Bor (List ℕ))) (d : Bor (List ℕ)) (i : ℕ) → i < length keys → most_of (map places (bare (drop i keys))) ≡ most_of (map places ((get_or keys i d).now ∷ bare (drop (i + 1) keys)))
 most_past places keys d i lt = at_drop_more (λ ks. most_of (map places (bare ks))) keys i d lt

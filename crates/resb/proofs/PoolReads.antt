@@ -2,6 +2,7 @@
 use Rattle.std.proofs.Common.{◌≡◌, ℕ, zero, suc, ◌+◌, ◌-◌, ◌*◌, ◌<◌, ◌≤◌, true, false, ltb, eqb, List, [], ◌∷◌, ◌++◌, length, length-append, Some, refl, ap, sym, ◌∙◌, append_assoc, subst, inl, inr, lit<, arith}
 use Rattle.std.specs.Str.{bytes_eq}
 use Rattle.std.proofs.lemmas.Bool.{cases_Bool, and_parts, and_from, ltb-true, ne_eqb, false≢true}
+use Rattle.std.proofs.lemmas.Cmp.{nat_list_eq_equiv}
 use Rattle.std.proofs.lemmas.Slice.Eq.{bytes_eq-Decides}
 use Rattle.resb_tree.specs.Keys.{stands_in}
 use Rattle.resb_tree.specs.Words.{byte_in}
@@ -11,7 +12,7 @@ use Rattle.resb.specs.TreeKeys.{first_keys, pool_bytes, key_place}
 use Rattle.resb.specs.Writing.{places_of}
 use Rattle.resb.specs.WrittenFiles.{most_of}
 use Rattle.resb.specs.BadKeys.{is_key, all_keys}
-use Rattle.resb.proofs.Pools.{bytes_eq_sym, if_parts, if_right}
+use Rattle.resb.proofs.Pools.{if_parts, if_right}
 use Rattle.resb.proofs.PackedWords.{Stand, Below, below_append, stand_front, stand_back}
 
 -- ---- one key
@@ -88,7 +89,7 @@ pool_read b (p ∷ ps) at key k h le there =
           rw (t) (e ∙ ap (λ (x : List ℕ). Some x) ((bytes_eq-Decides p key).0 t))
       | inr f ↦
           let back = stand_back (byte_in b.words) at p (0 ∷ pool_bytes ps) h in
-          let later : stands_in key ps ≡ true = (rw (bytes_eq_sym key p ∙ f) at there) in
+          let later : stands_in key ps ≡ true = (rw (nat_list_eq_equiv.symm key p ∙ f) at there) in
           rw f (pool_read b ps (at + length p + 1) key both.1 back.1 (omega (arith, le, len)) later)
     ]
 
@@ -97,7 +98,7 @@ place_low [] at key there = absurd (false≢true there)
 place_low (p ∷ ps) at key there = elim (cases_Bool (bytes_eq p key)) [
   | inl t ↦ rw t (omega arith)
   | inr f ↦
-      let later : stands_in key ps ≡ true = (rw (bytes_eq_sym key p ∙ f) at there) in
+      let later : stands_in key ps ≡ true = (rw (nat_list_eq_equiv.symm key p ∙ f) at there) in
       let low = place_low ps (at + length p + 1) key later in
       rw f (omega (arith, low))
 ]

@@ -1,22 +1,23 @@
 -- Keys that are looked for one after the other, and in the first keys of a pool.
 use Rattle.std.proofs.Common.{◌≡◌, ℕ, zero, suc, ◌+◌, ◌<◌, ◌≤◌, true, false, List, [], ◌∷◌, length, take, drop, get_or, inl, inr, Option, Some, None, refl, Bor, arith}
 use Rattle.std.proofs.lemmas.Bool.{cases_Bool}
+use Rattle.std.proofs.lemmas.Cmp.{nat_list_eq_equiv}
 use Rattle.std.proofs.lemmas.List.{at_drop_more, drop_more}
 use Rattle.std.specs.Str.{bytes_eq}
 use Rattle.resb.specs.Pool.{bare, pool_end}
 use Rattle.resb.specs.TreeKeys.{pool_bytes}
-use Rattle.resb.proofs.Pools.{bytes_eq_sym, told_at, behind}
+use Rattle.resb.proofs.Pools.{told_at, behind}
 
 -- the key that is looked for stands here
 pub told_there : (keys : List (Bor (List ℕ))) (d : Bor (List ℕ)) (q : List ℕ) (at i : ℕ) → i < length keys → bytes_eq (get_or keys i d).now q ≡ true → Some at ≡ told_at (bare (drop i keys)) at q
 told_there keys d q at i lt e =
-    rw (drop_more keys i d lt, bytes_eq_sym q (get_or keys i d).now, e) refl
+    rw (drop_more keys i d lt, nat_list_eq_equiv.symm q (get_or keys i d).now, e) refl
 
 -- it does not, and is looked for behind
 pub told_past : (keys : List (Bor (List ℕ))) (d : Bor (List ℕ)) (q : List ℕ) (at i : ℕ) → i < length keys → bytes_eq (get_or keys i d).now q ≡ false → told_at (bare (drop i keys)) at q ≡ told_at (bare (drop (i + 1) keys)) (at + (length (get_or keys i d).now + 1)) q
 told_past keys d q at i lt e =
     let p : at + (length (get_or keys i d).now + 1) ≡ at + length (get_or keys i d).now + 1 = omega arith in
-    rw (drop_more keys i d lt, bytes_eq_sym q (get_or keys i d).now, e, p) refl
+    rw (drop_more keys i d lt, nat_list_eq_equiv.symm q (get_or keys i d).now, e, p) refl
 
 pub end_past : (keys : List (Bor (List ℕ))) (d : Bor (List ℕ)) (at i : ℕ) → i < length keys → at + length (pool_bytes (bare (drop i keys))) ≡ at + (length (get_or keys i d).now + 1) + length (pool_bytes (bare (drop (i + 1) keys)))
 end_past keys d at i lt =
@@ -33,8 +34,8 @@ told_take zero keys at q p h = absurd (let f : Some p ≡ (let none : Option ℕ
 told_take (suc n) [] at q p h = h
 told_take (suc n) (k ∷ keys) at q p h =
     elim (cases_Bool (bytes_eq q k.now)) [
-      | inl e ↦ rw (bytes_eq_sym k.now q, e) (rw (bytes_eq_sym k.now q, e) at h)
-      | inr e ↦ rw (bytes_eq_sym k.now q, e) (told_take n keys (at + length k.now + 1) q p (rw (bytes_eq_sym k.now q, e) at h))
+      | inl e ↦ rw (nat_list_eq_equiv.symm k.now q, e) (rw (nat_list_eq_equiv.symm k.now q, e) at h)
+      | inr e ↦ rw (nat_list_eq_equiv.symm k.now q, e) (told_take n keys (at + length k.now + 1) q p (rw (nat_list_eq_equiv.symm k.now q, e) at h))
     ]
 
 bytes_take : (n : ℕ) (keys : List (Bor (List ℕ))) → length (pool_bytes (bare (take n keys))) ≤ length (pool_bytes (bare keys))

@@ -7,17 +7,18 @@ use Rattle.std.specs.Cmp.Lexicographic.{slice_cmp}
 use Rattle.std.specs.Ordering.{nat_cmp}
 use Rattle.std.specs.Str.{bytes_eq}
 use Rattle.std.proofs.lemmas.Bool.{cases_Bool, false≢true, true≢false, lt-ltb, ltb-false, ltb-true}
+use Rattle.std.proofs.lemmas.Cmp.{nat_list_eq_equiv}
 use Rattle.std.proofs.lemmas.List.{append-nil, length-append, map-append}
 use Rattle.std.proofs.lemmas.Map.Text.{btree_map_updates_str}
 use Rattle.std.proofs.lemmas.Slice.Eq.{bytes_eq-Decides}
 use Rattle.resb_tree.specs.Keys.{stands_in}
 use Rattle.resb_tree.specs.Bodies.{◌>>=◌}
+use Rattle.resb.specs.Packing.{most_unit}
 use Rattle.resb.specs.Pool.{bare, place_of, pool_end}
 use Rattle.resb.specs.Inside.Pooling.{place_told, added, pooled}
 use Rattle.resb.specs.TreeKeys.{key_place, pool_bytes, first_keys}
 use Rattle.resb.specs.Writing.{places_of}
 use Rattle.resb.specs.WrittenFiles.{most_of}
-use Rattle.std.specs.Bool.{one_answer}
 
 -- ---- what holds of `if b then true else r`
 
@@ -35,11 +36,6 @@ if_right false r h = h
 
 -- ---- where a key begins
 
-pub bytes_eq_sym : (xs ys : List ℕ) → bytes_eq xs ys ≡ bytes_eq ys xs
-bytes_eq_sym xs ys =
-    let h = bytes_eq-Decides ys xs in
-    one_answer _ _ (bytes_eq-Decides xs ys) (λ e. sym (h.0 e), λ e. h.1 (sym e))
-
 abbrev pub told_at : List (List ℕ) → ℕ → List ℕ → Option ℕ
 told_at keys at key = cond (stands_in key keys) (Some (key_place keys at key)) None
 
@@ -51,19 +47,19 @@ pub key_place-absent : (keys : List (List ℕ)) (at : ℕ) (q : List ℕ) → st
 key_place-absent [] at q h = omega arith
 key_place-absent (k ∷ keys) at q h =
     let parts = if_parts (bytes_eq q k) (stands_in q keys) h in
-    rw (bytes_eq_sym k q, parts.0, key_place-absent keys (at + length k + 1) q parts.1) (behind keys k at)
+    rw (nat_list_eq_equiv.symm k q, parts.0, key_place-absent keys (at + length k + 1) q parts.1) (behind keys k at)
 
 -- a key that is put behind the others
 told_push : (keys : List (List ℕ)) (key q : List ℕ) (at : ℕ) → stands_in key keys ≡ false → told_at (keys ++ key ∷ []) at q ≡ cond (bytes_eq key q) (Some (at + length (pool_bytes keys))) (told_at keys at q)
-told_push [] key q at h = let z : at + 0 ≡ at = omega arith in rw (z, bytes_eq_sym q key) (grind arith)
+told_push [] key q at h = let z : at + 0 ≡ at = omega arith in rw (z, nat_list_eq_equiv.symm q key) (grind arith)
 told_push (k ∷ keys) key q at h =
     let parts = if_parts (bytes_eq key k) (stands_in key keys) h in
     elim (cases_Bool (bytes_eq k q)) [
       | inl e ↦
           let same : k ≡ q = (bytes_eq-Decides k q).0 e in
           let other : bytes_eq key q ≡ false = rw (← same) parts.0 in
-          rw (bytes_eq_sym q k, e, other) refl
-      | inr e ↦ rw (bytes_eq_sym q k, e, ← behind keys k at) (told_push keys key q (at + length k + 1) parts.1)
+          rw (nat_list_eq_equiv.symm q k, e, other) refl
+      | inr e ↦ rw (nat_list_eq_equiv.symm q k, e, ← behind keys k at) (told_push keys key q (at + length k + 1) parts.1)
     ]
 
 pub unplaced_key : (keys : List (List ℕ)) (q : List ℕ) → (let none : Option ℕ = None in none ≡ place_told keys q) → stands_in q keys ≡ false
@@ -96,13 +92,13 @@ max_below : (m a b : ℕ) → nat_lt m a ≡ false → nat_lt m (max a b) ≡ na
 max_below m a b h = grind arith
 
 abbrev pub all_pooled : List (List ℕ) → List (List ℕ) → Option (List (List ℕ))
-all_pooled keys ks = cond (nat_lt 65535 (most_of (places_of (first_keys keys ks) (pool_end keys)))) None (Some (keys ++ first_keys keys ks))
+all_pooled keys ks = cond (nat_lt most_unit (most_of (places_of (first_keys keys ks) (pool_end keys)))) None (Some (keys ++ first_keys keys ks))
 
-pooled_new : (keys ks : List (List ℕ)) (k : List ℕ) → pooled (keys ++ k ∷ []) ks ≡ all_pooled (keys ++ k ∷ []) ks → (b : Bool) → nat_lt 65535 (pool_end keys) ≡ b
-    → (let none : Option (List (List ℕ)) = None in cond b none (Some (keys ++ k ∷ [])) >>= λ more. pooled more ks) ≡ cond (nat_lt 65535 (max (pool_end keys) (most_of (places_of (first_keys (keys ++ k ∷ []) ks) (pool_end keys + length k + 1))))) None (Some (keys ++ k ∷ first_keys (keys ++ k ∷ []) ks))
-pooled_new keys ks k more true e = rw (lt-ltb 65535 (max (pool_end keys) (most_of (places_of (first_keys (keys ++ k ∷ []) ks) (pool_end keys + length k + 1)))) (let far = ltb-true _ _ e in omega (arith, far))) refl
+pooled_new : (keys ks : List (List ℕ)) (k : List ℕ) → pooled (keys ++ k ∷ []) ks ≡ all_pooled (keys ++ k ∷ []) ks → (b : Bool) → nat_lt most_unit (pool_end keys) ≡ b
+    → (let none : Option (List (List ℕ)) = None in cond b none (Some (keys ++ k ∷ [])) >>= λ more. pooled more ks) ≡ cond (nat_lt most_unit (max (pool_end keys) (most_of (places_of (first_keys (keys ++ k ∷ []) ks) (pool_end keys + length k + 1))))) None (Some (keys ++ k ∷ first_keys (keys ++ k ∷ []) ks))
+pooled_new keys ks k more true e = rw (lt-ltb most_unit (max (pool_end keys) (most_of (places_of (first_keys (keys ++ k ∷ []) ks) (pool_end keys + length k + 1)))) (let far = ltb-true _ _ e in omega (arith, far))) refl
 pooled_new keys ks k more false e =
-    rw (max_below 65535 (pool_end keys) (most_of (places_of (first_keys (keys ++ k ∷ []) ks) (pool_end keys + length k + 1))) e, ← pool_end_push keys k, more) (ap (λ all. cond (nat_lt 65535 (most_of (places_of (first_keys (keys ++ k ∷ []) ks) (pool_end (keys ++ k ∷ []))))) None (Some all)) (append_assoc keys (k ∷ []) (first_keys (keys ++ k ∷ []) ks)))
+    rw (max_below most_unit (pool_end keys) (most_of (places_of (first_keys (keys ++ k ∷ []) ks) (pool_end keys + length k + 1))) e, ← pool_end_push keys k, more) (ap (λ all. cond (nat_lt most_unit (most_of (places_of (first_keys (keys ++ k ∷ []) ks) (pool_end (keys ++ k ∷ []))))) None (Some all)) (append_assoc keys (k ∷ []) (first_keys (keys ++ k ∷ []) ks)))
 
 -- the pool has each key once, where each place fits
 pub pooled_is : (keys ks : List (List ℕ)) → pooled keys ks ≡ all_pooled keys ks
@@ -110,15 +106,15 @@ unfolding pooled
 pooled_is keys [] = ap (λ (all : List (List ℕ)). Some all) (sym (append-nil keys))
 pooled_is keys (k ∷ ks) = elim (cases_Bool (stands_in k keys)) [
   | inl old ↦ rw old (pooled_is keys ks)
-  | inr new ↦ rw new (pooled_new keys ks k (pooled_is (keys ++ k ∷ []) ks) (nat_lt 65535 (pool_end keys)) refl)
+  | inr new ↦ rw new (pooled_new keys ks k (pooled_is (keys ++ k ∷ []) ks) (nat_lt most_unit (pool_end keys)) refl)
 ]
 
 -- a pool that was filled has each key once, and each place fits
-pub pool_first : (ks p : List (List ℕ)) → pooled [] ks ≡ Some p → (p ≡ first_keys [] ks) × (most_of (places_of p 32) ≤ 65535)
+pub pool_first : (ks p : List (List ℕ)) → pooled [] ks ≡ Some p → (p ≡ first_keys [] ks) × (most_of (places_of p 32) ≤ most_unit)
 pool_first ks p h =
     let found : all_pooled [] ks ≡ Some p = sym (pooled_is [] ks) ∙ h in
     let is : p ≡ first_keys [] ks = grind arith in
-    let near : nat_lt 65535 (most_of (places_of (first_keys [] ks) 32)) ≡ false = grind arith in
+    let near : nat_lt most_unit (most_of (places_of (first_keys [] ks) 32)) ≡ false = grind arith in
     (is, rw is (ltb-false _ _ near))
 
 pub placed : (keys : List (List ℕ)) (q : List ℕ) (p : ℕ) → Some p ≡ place_told keys q → p ≡ place_of keys q
@@ -131,18 +127,13 @@ pub ruleset placing = (placed, unplaced)
 
 -- ---- keys that are met again
 
-bind_bind : {A B C : Type 0} (o : Option A) (f : A → Option B) (g : B → Option C) → (o >>= f >>= g) ≡ (o >>= λ x. f x >>= g)
-bind_bind None f g = refl
-bind_bind (Some x) f g = refl
-
-bind_same : {A B : Type 0} (o : Option A) (f g : A → Option B) → ((x : A) → f x ≡ g x) → (o >>= f) ≡ (o >>= g)
-bind_same None f g h = refl
-bind_same (Some x) f g h = h x
-
 pub pooled-append : (keys xs ys : List (List ℕ)) → pooled keys (xs ++ ys) ≡ (pooled keys xs >>= λ more. pooled more ys)
 unfolding pooled
 pooled-append keys [] ys = refl
-pooled-append keys (x ∷ xs) ys = bind_same (added keys x) (λ more. pooled more (xs ++ ys)) (λ more. pooled more xs >>= λ m. pooled m ys) (λ more. pooled-append more xs ys) ∙ sym (bind_bind (added keys x) (λ more. pooled more xs) (λ m. pooled m ys))
+pooled-append keys (x ∷ xs) ys = elim (added keys x) as (λ o. (o >>= λ more. pooled more (xs ++ ys)) ≡ (o >>= (λ more. pooled more xs) >>= λ more. pooled more ys)) [
+  | None ↦ refl
+  | Some more ↦ pooled-append more xs ys
+]
 
 -- keys of which the first part has one pool with others
 pub pooled_on : (old new keys rest : List (List ℕ)) (all : Option (List (List ℕ))) → pooled [] new ≡ pooled [] (old ++ keys) → pooled [] (old ++ (keys ++ rest)) ≡ all → pooled [] (new ++ rest) ≡ all

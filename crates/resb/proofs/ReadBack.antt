@@ -5,7 +5,7 @@ use Rattle.std.proofs.lemmas.Bool.{and_parts, ltb-true, lt-ltb, le-leb, ne_eqb}
 use Rattle.resb_tree.specs.declared.resource.Resource.{Resource}
 use Rattle.resb_tree.specs.declared.resource.Resource.TheVariants as r
 use Rattle.resb_tree.specs.Keys.{distinct, keys_in}
-use Rattle.resb_tree.specs.Words.{run, byte_in, unit_in}
+use Rattle.resb_tree.specs.Words.{run, byte_in, unit_in, value_count}
 use Rattle.resb_tree.specs.Bodies.{Body, counted}
 use Rattle.resb_tree.specs.Leaves.{text_at, bytes_at, integers_at}
 use Rattle.resb_tree.specs.Arrays.{all_of, array_at}
@@ -27,11 +27,11 @@ Read b levels at words t = 0 < at → StandIn b.words at words.0 → at + length
 abbrev pub Reads : Body → ℕ → (List ℕ → ℕ) → ℕ → Laid → Resource → Type 0
 Reads b levels places at l t = Read b levels at (l places at) t
 
-pub at_type : (b : Body) (levels type v : ℕ) → v < 268435456 → tree_at b (suc levels) (item type v) ≡ by_type (tree_at b levels) b type v
+pub at_type : (b : Body) (levels type v : ℕ) → v < value_count → tree_at b (suc levels) (item type v) ≡ by_type (tree_at b levels) b type v
 unfolding tree_at
 at_type b levels type v lt =
-    let q : (268435456 * type + v) / 268435456 ≡ type = omega (arith, lt) in
-    let k : (268435456 * type + v) % 268435456 ≡ v = omega (arith, lt) in
+    let q : (value_count * type + v) / value_count ≡ type = omega (arith, lt) in
+    let k : (value_count * type + v) % value_count ≡ v = omega (arith, lt) in
     rw (q, k) refl
 
 below : (n : ℕ) (xs : List ℕ) → all_below n xs ≡ true → Below n xs
@@ -51,7 +51,7 @@ counted_is b v per count e lt le =
 
 -- ---- texts, bytes and integers
 
-pub text_reads : (b : Body) (levels : ℕ) (places : List ℕ → ℕ) (at : ℕ) (units : List ℕ) → b.end ≤ 268435456 → all_below 65536 units ≡ true → Reads b (suc levels) places at (text_laid units) (r.Text units)
+pub text_reads : (b : Body) (levels : ℕ) (places : List ℕ → ℕ) (at : ℕ) (units : List ℕ) → b.end ≤ value_count → all_below 65536 units ≡ true → Reads b (suc levels) places at (text_laid units) (r.Text units)
 unfolding by_type text_at
 text_reads b levels places at [] fits low pos h le = at_type b levels 0 0 (lit< tt)
 text_reads b levels places at (u ∷ units) fits low pos h le =
@@ -63,7 +63,7 @@ text_reads b levels places at (u ∷ units) fits low pos h le =
     let e = stand_run (unit_in b.words) (2 * (at + 1)) all (stand_front (unit_in b.words) (2 * (at + 1)) all (0 ∷ []) stand) in
     at_type b levels 0 at (omega (arith, fits, le)) ∙ rw (not_zero at pos, count, e) refl
 
-pub bytes_reads : (b : Body) (levels : ℕ) (places : List ℕ → ℕ) (at : ℕ) (bytes : List ℕ) → b.end ≤ 268435456 → all_below 256 bytes ≡ true → Reads b (suc levels) places at (bytes_laid bytes) (r.Bytes bytes)
+pub bytes_reads : (b : Body) (levels : ℕ) (places : List ℕ → ℕ) (at : ℕ) (bytes : List ℕ) → b.end ≤ value_count → all_below 256 bytes ≡ true → Reads b (suc levels) places at (bytes_laid bytes) (r.Bytes bytes)
 unfolding by_type bytes_at
 bytes_reads b levels places at [] fits low pos h le = at_type b levels 1 0 (lit< tt)
 bytes_reads b levels places at (x ∷ bytes) fits low pos h le =
@@ -73,7 +73,7 @@ bytes_reads b levels places at (x ∷ bytes) fits low pos h le =
     let e = stand_run (byte_in b.words) (4 * (at + 1)) all (bytes_stand b.words (at + 1) all h.1 (below 256 all low)) in
     at_type b levels 1 at (omega (arith, fits, le)) ∙ rw (not_zero at pos, count, e) refl
 
-pub integers_reads : (b : Body) (levels : ℕ) (places : List ℕ → ℕ) (at : ℕ) (values : List ℕ) → b.end ≤ 268435456 → Reads b (suc levels) places at (integers_laid values) (r.Integers values)
+pub integers_reads : (b : Body) (levels : ℕ) (places : List ℕ → ℕ) (at : ℕ) (values : List ℕ) → b.end ≤ value_count → Reads b (suc levels) places at (integers_laid values) (r.Integers values)
 unfolding by_type integers_at
 integers_reads b levels places at [] fits pos h le = at_type b levels 14 0 (lit< tt)
 integers_reads b levels places at (x ∷ values) fits pos h le =

@@ -1,12 +1,13 @@
 -- What room is left for in a draft, and why a call of it is refused.
+use Rattle.std.proofs.lemmas.List.Sums.{sum_by-append}
 use Rattle.std.proofs.Common.{◌≡◌, ℕ, ◌+◌, ◌-◌, ◌*◌, ◌≤◌, ◌≢◌, List, [], ◌∷◌, ◌++◌, length, ap, ◌∙◌, inl, inr, arith}
 use Rattle.std.proofs.lemmas.List.{length-map}
-use Rattle.std.specs.Prelude.{map}
+use Rattle.std.specs.Prelude.{map, sum_by}
 use Rattle.std.proofs.lemmas.Bool.Decides.{leb_tells}
 use Rattle.resb_tree.specs.declared.error.ResbError.{ResbError}
 use Rattle.resb_tree.specs.declared.error.ResbError.TheVariants.{Memory, NoTree, TooLarge, BadKey}
 use Rattle.resb_tree.specs.declared.resource.Resource.{Resource}
-use Rattle.resb_tree.specs.Weight.{weight, weights}
+use Rattle.resb_tree.specs.Weight.{weight, most_weight}
 use Rattle.resb.specs.Plan.{Fits, most_words, Refuses}
 use Rattle.resb.specs.Pool.{place_of, words_end}
 use Rattle.resb.specs.LaidTrees.{laid, lay_all}
@@ -15,7 +16,7 @@ use Rattle.resb.specs.DraftRows.{Holds, HasRoom}
 use Rattle.resb.specs.Drafts.{Unwritten}
 use Rattle.resb.specs.declared.draft.Draft.{Draft}
 use Rattle.resb.proofs.LaidWords.{fits-first, parts_fit, refused_still}
-use Rattle.resb.proofs.Rows.{fits_both, fits_front, fits_back, weights_both}
+use Rattle.resb.proofs.Rows.{fits_both, fits_front, fits_back}
 use Rattle.resb.proofs.TreeKinds.{IsParent, most_both, length-lay_all}
 
 -- ---- room for more
@@ -24,7 +25,7 @@ pub room_front : (keys : List (List ℕ)) (xs ys : List Resource) → HasRoom ke
 room_front keys xs ys h = record {
   fits = fits_front xs ys (place_of keys) _ h.fits;
   shallow = omega (arith, h.shallow, most_both depth xs ys);
-  light = omega (arith, h.light, weights_both xs ys);
+  light = omega (arith, h.light, sum_by-append weight xs ys);
 }
 
 pub room_words : (d : Draft) (keys : List (List ℕ)) (row : List Resource) → Holds d keys row → d.base + length d.laying.words.items ≤ most_words
@@ -41,15 +42,15 @@ parts_room keys row xs t names p room =
     record {
       fits = fits_both row xs (place_of keys) _ (fits_front row (t ∷ []) (place_of keys) _ room.fits) (parts_fit t xs names p (place_of keys) _ (fits-first t [] (place_of keys) _ back));
       shallow = omega (arith, room.shallow, p.deep, most_both depth row (t ∷ []), most_both depth row xs);
-      light = omega (arith, room.light, p.weighs, weights_both row (t ∷ []), weights_both row xs);
+      light = omega (arith, room.light, p.weighs, sum_by-append weight row (t ∷ []), sum_by-append weight row xs);
     }
 
 -- ---- why a tree is refused
 
 -- a tree is refused only where a fact fails that holds wherever there is room
-pub refused_heavy : (d : Draft) (keys : List (List ℕ)) (held row : List Resource) (t : Resource) (own : ℕ) (P : Type 0) (e : ResbError) → weight t + weights row ≡ 1 + own + weights held → Holds d keys held
+pub refused_heavy : (d : Draft) (keys : List (List ℕ)) (held row : List Resource) (t : Resource) (own : ℕ) (P : Type 0) (e : ResbError) → weight t + sum_by weight row ≡ 1 + own + sum_by weight held → Holds d keys held
     → Refuses P e → (d.base + length d.laying.words.items ≤ most_words → 1 + own ≤ d.left → P) → Refuses (HasRoom keys (row ++ t ∷ [])) e
-refused_heavy d keys held row t own P e w h g f = refused_still e P _ (λ (room : HasRoom keys (row ++ t ∷ [])). f (room_words d keys held h) (omega (arith, w, h.1.weight, room.light, weights_both row (t ∷ [])))) g
+refused_heavy d keys held row t own P e w h g f = refused_still e P _ (λ (room : HasRoom keys (row ++ t ∷ [])). f (room_words d keys held h) (omega (arith, w, h.1.weight, room.light, sum_by-append weight row (t ∷ [])))) g
 
 pub refused_long : (d : Draft) (keys : List (List ℕ)) (held row : List Resource) (t : Resource) (P : Type 0) (e : ResbError) → Holds d keys held
     → Refuses P e → (Fits t (place_of keys) (d.base + length (lay_all (map laid row) (place_of keys) d.base).0) → P) → Refuses (HasRoom keys (row ++ t ∷ [])) e
@@ -78,7 +79,7 @@ refused_unwritten keys row P BadKey f g = absurd f
 pub no_words : (d : Draft) (keys : List (List ℕ)) (row : List Resource) (e : ResbError) → Holds d keys row → Refuses (d.base + length d.laying.words.items ≤ most_words) e → Unwritten keys row e
 no_words d keys row e h f = refused_unwritten keys row _ e f (λ full. absurd (full (room_words d keys row h)))
 
-pub too_heavy : (d : Draft) (keys : List (List ℕ)) (row : List Resource) (root weighed : ℕ) (e : ResbError) (words : List ℕ) → Holds d keys row → d.laying.items.items ≡ root ∷ [] → weighed ≡ 8388608 - d.left → words ≡ d.laying.words.items
+pub too_heavy : (d : Draft) (keys : List (List ℕ)) (row : List Resource) (root weighed : ℕ) (e : ResbError) (words : List ℕ) → Holds d keys row → d.laying.items.items ≡ root ∷ [] → weighed ≡ most_weight - d.left → words ≡ d.laying.words.items
     → Refuses (weighed ≤ 8 * (6 + (d.base + length words))) e → Unwritten keys row e
 too_heavy d keys row root weighed e words h one w is f = refused_unwritten keys row _ e f (λ heavy.
     let long : length words ≡ length (lay_all (map laid row) (place_of keys) (words_end keys)).0 = ap length is ∙ ap length h.1.laid_words ∙ ap (λ (at : ℕ). length (lay_all (map laid row) (place_of keys) at).0) h.1.behind in (

@@ -4,8 +4,9 @@ use Rattle.std.proofs.lemmas.List.{length-append, append-nil}
 use Rattle.std.proofs.lemmas.Bool.{and_parts, or_parts}
 use Rattle.resb_tree.specs.declared.resource.Resource.{Resource}
 use Rattle.resb_tree.specs.Header.{tree_of}
-use Rattle.resb_tree.specs.Weight.{weight}
+use Rattle.resb_tree.specs.Weight.{weight, most_weight}
 use Rattle.resb.specs.Inside.Bundles.{bundle_of}
+use Rattle.resb.specs.Packing.{most_unit}
 use Rattle.resb.specs.Plan.{most_words}
 use Rattle.resb.specs.Pool.{place_of, words_end}
 use Rattle.resb.specs.LaidTrees.{laid}
@@ -19,7 +20,7 @@ use Rattle.resb.proofs.LaidWords.{fits_none}
 use Rattle.resb.proofs.WrittenWords.{Kept, keeps, written_is, length-written}
 
 -- an empty row
-pub no_row : (keys : List (List ℕ)) (base : ℕ) → base ≡ words_end keys → most_of (places_of keys 32) ≤ 65535 → all_keys keys ≡ true → base ≤ most_words → Row keys [] base [] [] [] 8388608 0
+pub no_row : (keys : List (List ℕ)) (base : ℕ) → base ≡ words_end keys → most_of (places_of keys 32) ≤ most_unit → all_keys keys ≡ true → base ≤ most_words → Row keys [] base [] [] [] most_weight 0
 no_row keys base b n g le = record {
   behind = b;
   near = n;
@@ -53,7 +54,7 @@ row_length t base words items levels left most r =
     let w = root_words t base words items levels left most r in
     length-written t ∙ rw (w, r.behind) refl
 
-pub row_light : (t : Resource) (base : ℕ) (words items levels : List ℕ) (left most : ℕ) → Row (key_pool t) (t ∷ []) base words items levels left most → 8388608 - left ≤ 8 * (6 + (base + length words)) → weight t ≤ 8 * length (written t)
+pub row_light : (t : Resource) (base : ℕ) (words items levels : List ℕ) (left most : ℕ) → Row (key_pool t) (t ∷ []) base words items levels left most → most_weight - left ≤ 8 * (6 + (base + length words)) → weight t ≤ 8 * length (written t)
 row_light t base words items levels left most r light = omega (arith, row_length t base words items levels left most r, light, r.weight)
 
 pub row_kept : (t : Resource) (base : ℕ) (words items levels : List ℕ) (left most : ℕ) → Row (key_pool t) (t ∷ []) base words items levels left most → weight t ≤ 8 * length (written t) → Kept t

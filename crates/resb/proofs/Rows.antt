@@ -1,21 +1,25 @@
 -- Trees in a row that are laid one after the other: those in front, those behind, and one more.
-use Rattle.std.proofs.Common.{◌≡◌, ℕ, ◌+◌, ◌<◌, ◌≤◌, Bool, true, false, List, [], ◌∷◌, ◌++◌, length, refl, sym, max, append_assoc, arith}
+use Rattle.std.proofs.lemmas.List.Folds.{list_any-append}
+use Rattle.std.proofs.Common.{◌≡◌, ℕ, ◌+◌, ◌<◌, ◌≤◌, Bool, true, false, List, [], ◌∷◌, ◌++◌, length, refl, sym, max, append_assoc, arith, ◌∙◌}
 use Rattle.std.proofs.lemmas.List.{length-append, append-nil, map-append}
-use Rattle.std.proofs.lemmas.Bool.{and_parts, and_from, or_parts, or_from, le-ltb}
-use Rattle.std.specs.Prelude.{map}
+use Rattle.std.proofs.lemmas.Bool.{or_parts, or_from, lt-leb}
+use Rattle.std.proofs.lemmas.List.Sums.{sum_by-append}
+use Rattle.std.specs.Prelude.{map, sum_by}
+use Rattle.std.specs.List.{list_any}
 use Rattle.resb_tree.specs.declared.resource.Resource.{Resource}
-use Rattle.resb_tree.specs.Weight.{weight, weights}
-use Rattle.resb.specs.Laws.{all_true, has_typed_parts}
+use Rattle.resb_tree.specs.Words.{value_count}
+use Rattle.resb_tree.specs.Weight.{weight}
+use Rattle.resb.specs.Laws.{has_typed_parts}
 use Rattle.resb.specs.Plan.{Fits, FitsAll}
 use Rattle.resb.specs.Pool.{bare, place_of}
 use Rattle.resb.specs.LaidTrees.{laid, lay_all}
 use Rattle.resb.specs.WrittenFiles.{most_of, most_entries}
 use Rattle.resb.specs.Writing.{depth}
-use Rattle.resb.specs.BadKeys.{any_bad, has_bad_key}
+use Rattle.resb.specs.BadKeys.{has_bad_key}
 use Rattle.resb.specs.Inside.Laying.{IsLaid}
 use Rattle.resb.specs.DraftRows.{Holds, Row}
 use Rattle.resb.proofs.LaidWords.{leaf_fits, fits-first, fits-rest, fits_none, fits_cons}
-use Rattle.resb.proofs.TreeKinds.{IsLeaf, leaf-Integer, most_both, at_place}
+use Rattle.resb.proofs.TreeKinds.{IsLeaf, leaf-Integer, most_both, at_place, all_append, all_parts}
 use Rattle.resb.proofs.Folds.{laid-Integer}
 use Rattle.resb_tree.specs.declared.resource.Resource.TheVariants as r
 use Rattle.resb.specs.declared.draft.Draft.{Draft}
@@ -51,34 +55,17 @@ fits_back (x ∷ xs) ys places at f =
     let v = (lay_all (map laid xs) places (at + length w)).0 in
     rw (behind_both at w v) (fits_back xs ys places (at + length w) (fits-rest x (xs ++ ys) places at f))
 
-pub weights_both : (xs ys : List Resource) → weights (xs ++ ys) ≡ weights xs + weights ys
-weights_both [] ys = omega arith
-weights_both (x ∷ xs) ys = omega (arith, weights_both xs ys)
+none_both : (f : Resource → Bool) (xs ys : List Resource) → list_any f xs ≡ false → list_any f ys ≡ false → list_any f (xs ++ ys) ≡ false
+none_both f xs ys h g = list_any-append f xs ys ∙ or_from _ _ h g
 
-true_both : (f : Resource → Bool) (xs ys : List Resource) → all_true (map f xs) ≡ true → all_true (map f ys) ≡ true → all_true (map f (xs ++ ys)) ≡ true
-true_both f [] ys h g = g
-true_both f (x ∷ xs) ys h g = let both = and_parts _ _ h in and_from _ _ both.0 (true_both f xs ys both.1 g)
-
-pub true_parts : (f : Resource → Bool) (xs ys : List Resource) → all_true (map f (xs ++ ys)) ≡ true → (all_true (map f xs) ≡ true) × (all_true (map f ys) ≡ true)
-true_parts f [] ys h = (refl, h)
-true_parts f (x ∷ xs) ys h =
-    let both = and_parts _ _ h in
-    let rest = true_parts f xs ys both.1 in
-    (and_from _ _ both.0 rest.0, rest.1)
-
-none_both : (f : Resource → Bool) (xs ys : List Resource) → any_bad (map f xs) ≡ false → any_bad (map f ys) ≡ false → any_bad (map f (xs ++ ys)) ≡ false
-none_both f [] ys h g = g
-none_both f (x ∷ xs) ys h g = let both = or_parts _ _ h in or_from _ _ both.0 (none_both f xs ys both.1 g)
-
-pub none_parts : (f : Resource → Bool) (xs ys : List Resource) → any_bad (map f (xs ++ ys)) ≡ false → (any_bad (map f xs) ≡ false) × (any_bad (map f ys) ≡ false)
-none_parts f [] ys h = (refl, h)
-none_parts f (x ∷ xs) ys h = let both = or_parts _ _ h in let rest = none_parts f xs ys both.1 in (or_from _ _ both.0 rest.0, rest.1)
+pub none_parts : (f : Resource → Bool) (xs ys : List Resource) → list_any f (xs ++ ys) ≡ false → (list_any f xs ≡ false) × (list_any f ys ≡ false)
+none_parts f xs ys h = or_parts _ _ (sym (list_any-append f xs ys) ∙ h)
 
 -- ---- a row without its last trees
 
 -- those in front, with what was laid of them
 pub front : (keys : List (List ℕ)) (xs ys : List Resource) (base : ℕ) (words items levels : List ℕ) (left most : ℕ) → Row keys (xs ++ ys) base words items levels left most
-    → Row keys xs base (lay_all (map laid xs) (place_of keys) base).0 (lay_all (map laid xs) (place_of keys) base).1 (map depth xs) (left + weights ys) (most_of (map most_entries xs))
+    → Row keys xs base (lay_all (map laid xs) (place_of keys) base).0 (lay_all (map laid xs) (place_of keys) base).1 (map depth xs) (left + sum_by weight ys) (most_of (map most_entries xs))
 front keys xs ys base words items levels left most r = record {
   behind = r.behind;
   near = r.near;
@@ -88,9 +75,9 @@ front keys xs ys base words items levels left most r = record {
   fits = fits_front xs ys (place_of keys) base r.fits;
   deep = refl;
   shallow = omega (arith, r.shallow, most_both depth xs ys);
-  weight = omega (arith, r.weight, weights_both xs ys);
+  weight = omega (arith, r.weight, sum_by-append weight xs ys);
   counts = refl;
-  typed = (true_parts has_typed_parts xs ys r.typed).0;
+  typed = (all_parts has_typed_parts xs ys r.typed).0;
   apart = (none_parts has_bad_key xs ys r.apart).0;
 }
 
@@ -114,19 +101,19 @@ more keys xs base words items levels left most r x new item level rest most' l d
   fits = one_fits xs x (place_of keys) base words r.laid_words r.fits l.fits;
   deep = rw (r.deep, d, map-append) refl;
   shallow = omega (arith, r.shallow, d, low, most_both depth xs (x ∷ []));
-  weight = omega (arith, r.weight, w, weights_both xs (x ∷ []));
+  weight = omega (arith, r.weight, w, sum_by-append weight xs (x ∷ []));
   counts = omega (arith, r.counts, m, most_both most_entries xs (x ∷ []));
-  typed = true_both has_typed_parts xs (x ∷ []) r.typed (rw t refl);
+  typed = all_append has_typed_parts xs (x ∷ []) r.typed (rw t refl);
   apart = none_both has_bad_key xs (x ∷ []) r.apart (rw b refl);
 }
 
 -- ---- a row with a leaf more
 
-pub narrow : (v : ℕ) → v < 268435456 → IsLeaf (r.Integer v) 0 false true
-narrow v small = rw (le-ltb 268435455 v (omega arith)) at (leaf-Integer v)
+pub narrow : (v : ℕ) → v < value_count → IsLeaf (r.Integer v) 0 false true
+narrow v small = rw (lt-leb value_count v small) at (leaf-Integer v)
 
 -- an integer that is small enough is laid
-pub integer_laid : (v : ℕ) → v < 268435456 → (base : ℕ) (old : List ℕ) → base + length old ≤ most_words → (places : List ℕ → ℕ) → IsLaid (r.Integer v) places base old old (1879048192 + v)
+pub integer_laid : (v : ℕ) → v < value_count → (base : ℕ) (old : List ℕ) → base + length old ≤ most_words → (places : List ℕ → ℕ) → IsLaid (r.Integer v) places base old old (1879048192 + v)
 integer_laid v small base old room places =
     let e = at_place (laid-Integer v) places (base + length old) in
     record { words = rw e (sym (append-nil old)); item = rw e refl; fits = leaf_fits (r.Integer v) 0 true (narrow v small) places (base + length old) (rw e (omega arith)) }

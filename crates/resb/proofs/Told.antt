@@ -2,7 +2,8 @@
 use Rattle.std.proofs.Common.{◌≡◌, ℕ, zero, suc, ◌+◌, ◌<◌, ◌≤◌, true, false, List, [], ◌∷◌, ◌++◌, length, drop, take, get_or, refl, sym, ap, ◌∙◌, subst, append_assoc, Bor, arith}
 use Rattle.std.proofs.lemmas.Bool.{and_parts, or_parts, not-false}
 use Rattle.std.proofs.lemmas.List.{take-append-drop, take_more, take_all, map-append}
-use Rattle.std.specs.Prelude.{map, Result, Ok, Err}
+use Rattle.std.specs.Prelude.{Result, Ok, Err}
+use Rattle.std.specs.List.{list_any}
 use Rattle.resb_tree.specs.Keys.{distinct, keys_in}
 use Rattle.resb_tree.specs.declared.error.ResbError.{ResbError}
 use Rattle.resb_tree.specs.declared.resource.Resource.{Resource}
@@ -13,7 +14,7 @@ use Rattle.resb.specs.Inside.Telling.{Tells, Names}
 use Rattle.resb.specs.Plan.{Refuses}
 use Rattle.resb.specs.Entries.{values_in}
 use Rattle.resb.specs.Pool.{bare}
-use Rattle.resb.specs.BadKeys.{all_keys, any_bad, has_bad_key}
+use Rattle.resb.specs.BadKeys.{all_keys, has_bad_key}
 use Rattle.resb.specs.declared.draft.Draft.{Draft}
 use Rattle.resb.proofs.LaidSteps.{item_cons}
 use Rattle.resb.proofs.LaidWords.{refused_still}
@@ -22,7 +23,7 @@ use Rattle.resb.proofs.Rows.{none_parts}
 use Rattle.resb.proofs.TreeKinds.{IsParent, parent-Array, parent-Table}
 
 abbrev Good : List Resource → Type 0
-Good xs = any_bad (map has_bad_key xs) ≡ false
+Good xs = list_any has_bad_key xs ≡ false
 
 -- ---- one after the other
 

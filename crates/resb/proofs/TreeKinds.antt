@@ -1,25 +1,29 @@
 -- Trees by kind: leaves, and parents of others.
-use Rattle.std.proofs.Common.{◌≡◌, ℕ, suc, ◌+◌, ◌/◌, ◌<◌, ◌≤◌, Bool, true, false, not, ◌&&◌, ◌||◌, List, [], ◌∷◌, ◌++◌, length, max, append_assoc, refl, ap, ◌∙◌, arith}
+use Rattle.std.proofs.lemmas.List.Folds.{list_all-map, list_all-append}
+use Rattle.std.proofs.Common.{◌≡◌, ℕ, suc, ◌+◌, ◌/◌, ◌<◌, ◌≤◌, Bool, true, false, not, ◌&&◌, ◌||◌, List, [], ◌∷◌, ◌++◌, length, max, append_assoc, refl, ap, ◌∙◌, arith, sym}
 use Rattle.std.proofs.lemmas.Bool.{and_parts, and_from}
 use Rattle.std.proofs.lemmas.List.{length-append, length-map}
-use Rattle.std.specs.Prelude.{map, nat_lt}
+use Rattle.std.proofs.lemmas.List.Sums.{sum-map, sum_by-cons}
+use Rattle.std.specs.Prelude.{map, nat_le, sum_by}
+use Rattle.std.specs.List.{list_any, list_all}
 use Rattle.resb_tree.specs.declared.resource.Resource.{Resource}
 use Rattle.resb_tree.specs.declared.resource.Resource.TheVariants as r
 use Rattle.resb_tree.specs.Bodies.{Body}
 use Rattle.resb_tree.specs.Keys.{distinct, keys_in}
-use Rattle.resb_tree.specs.Weight.{layer_weight, weight, weights, sum_of, entries_sum}
+use Rattle.resb_tree.specs.Words.{value_count}
+use Rattle.resb_tree.specs.Weight.{layer_weight, weight}
 use Rattle.resb.specs.Entries.{values_in, told_values}
 use Rattle.resb.specs.Inside.Laying.{no_places}
 use Rattle.resb.specs.TreeKeys.{keys_met, entry_keys, item_keys}
 use Rattle.resb.specs.LaidTrees.{Laid, laid, lay_all, text_laid, bytes_laid, integers_laid}
 use Rattle.std.specs.Simd.Lanes.{all_below}
-use Rattle.resb.specs.Laws.{all_true, layer_typed, has_typed_parts}
+use Rattle.resb.specs.Laws.{layer_typed, has_typed_parts}
 use Rattle.resb.specs.Packing.{pack_units}
 use Rattle.resb.specs.WrittenFiles.{layer_most, most_entries, most_of}
-use Rattle.resb.specs.BadKeys.{layer_bad, has_bad_key, any_bad, all_keys}
+use Rattle.resb.specs.BadKeys.{layer_bad, has_bad_key, all_keys, is_key}
 use Rattle.resb.specs.Writing.{layer_depth, depth, layer_wide, has_wide_integer}
 use Rattle.resb.proofs.Cases.{by_variant}
-use Rattle.resb.proofs.Folds.{fold-Text, fold-Bytes, fold-Integers, fold-Integer, fold-Array, fold-Table, told-keys, told-values, length-told, keys_met-Text, keys_met-Bytes, keys_met-Integers, keys_met-Integer, keys_met-Array, keys_met-Table, laid-Text, laid-Bytes, laid-Integers, laid-Integer, laid-Array, laid-Table}
+use Rattle.resb.proofs.Folds.{fold-Text, fold-Bytes, fold-Integers, fold-Integer, fold-Array, fold-Table, told-keys, told-values, length-told, keys_met-Text, keys_met-Bytes, keys_met-Integers, keys_met-Integer, keys_met-Array, keys_met-Table, laid-Text, laid-Bytes, laid-Integers, laid-Integer, laid-Array, laid-Table, any-map, any-told, all-told}
 use Rattle.resb.proofs.PackedWords.{length-pack_units}
 use Rattle.resb.proofs.PoolReads.{Each, each_append, both_each, Placed}
 
@@ -87,7 +91,7 @@ leaf-Integers v = record {
   same = λ places at. rw (laid-Integers v) (integers_same v places at);
 }
 
-pub leaf-Integer : (v : ℕ) → IsLeaf (r.Integer v) 0 (nat_lt 268435455 v) true
+pub leaf-Integer : (v : ℕ) → IsLeaf (r.Integer v) 0 (nat_le value_count v) true
 unfolding most_entries weight depth has_bad_key has_wide_integer has_typed_parts
 leaf-Integer v = record {
   keys = keys_met-Integer v;
@@ -143,18 +147,14 @@ length-own es places = omega (arith, length-pack_units (length es ∷ map places
 pub record IsParent (t : Resource) (xs : List Resource) (names : List (List ℕ)) : Type 0 where
   pub near : (places : List ℕ → ℕ) → most_of (map places (keys_met t)) ≡ max (most_of (map places names)) (most_of (map places (item_keys (map keys_met xs))))
   pub entries : most_entries t ≡ max (length names) (most_of (map most_entries xs))
-  pub weighs : weight t ≡ 1 + sum_of (map length names) + weights xs
+  pub weighs : weight t ≡ 1 + sum_by length names + sum_by weight xs
   pub deep : depth t ≡ 1 + most_of (map depth xs)
-  pub bad : has_bad_key t ≡ (not (all_keys names && distinct names) || any_bad (map has_bad_key xs))
-  pub wide : has_wide_integer t ≡ any_bad (map has_wide_integer xs)
-  pub typed : has_typed_parts t ≡ all_true (map has_typed_parts xs)
+  pub bad : has_bad_key t ≡ (not (all_keys names && distinct names) || list_any has_bad_key xs)
+  pub wide : has_wide_integer t ≡ list_any has_wide_integer xs
+  pub typed : has_typed_parts t ≡ list_all has_typed_parts xs
   pub inner : (places : List ℕ → ℕ) (at : ℕ) → length (lay_all (map laid xs) places at).0 ≤ length (laid t places at).0
   pub good : all_keys names ≡ true → all_keys (item_keys (map keys_met xs)) ≡ true → all_keys (keys_met t) ≡ true
   pub placed : (b : Body) (places : List ℕ → ℕ) → Each (Placed b places) (keys_met t) → Each (Placed b places) names × Each (Placed b places) (item_keys (map keys_met xs))
-
-sums : (xs : List Resource) → sum_of (map weight xs) ≡ weights xs
-sums [] = refl
-sums (x ∷ xs) = ap (λ n. weight x + n) (sums xs)
 
 array_inner : (xs : List Resource) (places : List ℕ → ℕ) (at : ℕ) → length (lay_all (map laid xs) places at).0 ≤ length (laid (r.Array xs) places at).0
 array_inner [] places at = omega arith
@@ -165,11 +165,11 @@ unfolding most_entries weight depth has_bad_key has_wide_integer has_typed_parts
 parent-Array xs = record {
   near = λ places. rw (keys_met-Array xs) (omega arith);
   entries = omega (arith, fold-Array layer_most xs);
-  weighs = omega (arith, fold-Array layer_weight xs, sums xs);
+  weighs = omega (arith, fold-Array layer_weight xs, sum-map weight xs);
   deep = fold-Array layer_depth xs;
-  bad = fold-Array layer_bad xs;
-  wide = fold-Array layer_wide xs;
-  typed = fold-Array layer_typed xs;
+  bad = fold-Array layer_bad xs ∙ any-map has_bad_key xs;
+  wide = fold-Array layer_wide xs ∙ any-map has_wide_integer xs;
+  typed = fold-Array layer_typed xs ∙ list_all-map (λ b. b) has_typed_parts xs;
   inner = array_inner xs;
   good = λ own all. rw (keys_met-Array xs) all;
   placed = λ b places h. (tt, rw (keys_met-Array xs) at h);
@@ -179,28 +179,29 @@ entries_near : (es : List (List ℕ × Resource)) (places : List ℕ → ℕ) �
 entries_near [] places = refl
 entries_near (e ∷ es) places = omega (arith, entries_near es places, most_both places (keys_met e.1) (entry_keys (told_values keys_met es)), most_both places (keys_met e.1) (item_keys (map keys_met (values_in es))))
 
-entries_weigh : (es : List (List ℕ × Resource)) → entries_sum (told_values weight es) ≡ sum_of (map length (keys_in es)) + weights (values_in es)
+entries_weigh : (es : List (List ℕ × Resource)) → sum_by (λ (e : List ℕ × ℕ). length e.0 + e.1) (told_values weight es) ≡ sum_by length (keys_in es) + sum_by weight (values_in es)
 entries_weigh [] = refl
-entries_weigh (e ∷ es) = omega (arith, entries_weigh es)
+entries_weigh (e ∷ es) =
+    let told = sum_by-cons (λ (e : List ℕ × ℕ). length e.0 + e.1) (e.0, weight e.1) (told_values weight es) in
+    omega (arith, entries_weigh es, told, sum_by-cons length e.0 (keys_in es), sum_by-cons weight e.1 (values_in es))
 
 table_inner : (es : List (List ℕ × Resource)) (places : List ℕ → ℕ) (at : ℕ) → length (lay_all (map laid (values_in es)) places at).0 ≤ length (laid (r.Table es) places at).0
 table_inner [] places at = omega arith
 table_inner (e ∷ es) places at = omega (arith, over_length (r.Table (e ∷ es)) (values_in (e ∷ es)) places (pack_units (length (e ∷ es) ∷ map places (keys_in (e ∷ es)))) 536870912 at (table_over (e ∷ es) places (omega arith)))
 
-pub all_append : (xs ys : List (List ℕ)) → all_keys xs ≡ true → all_keys ys ≡ true → all_keys (xs ++ ys) ≡ true
-all_append [] ys h g = g
-all_append (x ∷ xs) ys h g = let both = and_parts _ _ h in and_from _ _ both.0 (all_append xs ys both.1 g)
+-- a test of two lists one behind the other
+pub all_append : {A : Type 0} (f : A → Bool) (xs ys : List A) → list_all f xs ≡ true → list_all f ys ≡ true → list_all f (xs ++ ys) ≡ true
+all_append f xs ys h g = list_all-append f xs ys ∙ and_from _ _ h g
 
-all_parts : (xs ys : List (List ℕ)) → all_keys (xs ++ ys) ≡ true → (all_keys xs ≡ true) × (all_keys ys ≡ true)
-all_parts [] ys h = (refl, h)
-all_parts (x ∷ xs) ys h = let both = and_parts _ _ h in let rest = all_parts xs ys both.1 in (and_from _ _ both.0 rest.0, rest.1)
+pub all_parts : {A : Type 0} (f : A → Bool) (xs ys : List A) → list_all f (xs ++ ys) ≡ true → (list_all f xs ≡ true) × (list_all f ys ≡ true)
+all_parts f xs ys h = and_parts _ _ (sym (list_all-append f xs ys) ∙ h)
 
 entries_good : (es : List (List ℕ × Resource)) → all_keys (keys_in es) ≡ true → all_keys (item_keys (map keys_met (values_in es))) ≡ true → all_keys (entry_keys (told_values keys_met es)) ≡ true
 entries_good [] h g = refl
 entries_good (e ∷ es) h g =
     let both = and_parts _ _ h in
-    let parts = all_parts (keys_met e.1) (item_keys (map keys_met (values_in es))) g in
-    and_from _ _ both.0 (all_append (keys_met e.1) (entry_keys (told_values keys_met es)) parts.0 (entries_good es both.1 parts.1))
+    let parts = all_parts is_key (keys_met e.1) (item_keys (map keys_met (values_in es))) g in
+    and_from _ _ both.0 (all_append is_key (keys_met e.1) (entry_keys (told_values keys_met es)) parts.0 (entries_good es both.1 parts.1))
 
 entries_placed : (P : List ℕ → Type 0) (es : List (List ℕ × Resource)) → Each P (entry_keys (told_values keys_met es)) → Each P (keys_in es) × Each P (item_keys (map keys_met (values_in es)))
 entries_placed P [] h = (tt, tt)
@@ -216,9 +217,9 @@ parent-Table es = record {
   entries = fold-Table layer_most es ∙ rw (length-told most_entries es, told-values most_entries es, ← length-map es (λ (e : List ℕ × Resource). e.0)) refl;
   weighs = omega (arith, fold-Table layer_weight es, entries_weigh es);
   deep = fold-Table layer_depth es ∙ rw (told-values depth es) refl;
-  bad = fold-Table layer_bad es ∙ rw (told-keys has_bad_key es, told-values has_bad_key es) refl;
-  wide = fold-Table layer_wide es ∙ rw (told-values has_wide_integer es) refl;
-  typed = fold-Table layer_typed es ∙ rw (told-values has_typed_parts es) refl;
+  bad = fold-Table layer_bad es ∙ rw (told-keys has_bad_key es, any-told has_bad_key es) refl;
+  wide = fold-Table layer_wide es ∙ any-told has_wide_integer es;
+  typed = fold-Table layer_typed es ∙ all-told has_typed_parts es;
   inner = table_inner es;
   good = λ own all. rw (keys_met-Table es) (entries_good es own all);
   placed = λ b places h. entries_placed (Placed b places) es (rw (keys_met-Table es) at h);

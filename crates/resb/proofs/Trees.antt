@@ -1,7 +1,9 @@
 -- The words that are written for a tree are read back to it.
-use Rattle.std.proofs.Common.{◌≡◌, ℕ, zero, suc, ◌+◌, ◌<◌, ◌≤◌, true, false, List, [], ◌∷◌, ◌++◌, length, length-append, sym, ◌∙◌, subst, lit<, arith}
+use Rattle.std.proofs.Common.{◌≡◌, ℕ, zero, suc, ◌+◌, ◌<◌, ◌≤◌, true, false, List, [], ◌∷◌, ◌++◌, length, length-append, sym, ◌∙◌, subst, lit<, arith, leb-false}
 use Rattle.std.specs.Prelude.{slice_index, map}
-use Rattle.std.proofs.lemmas.Bool.{and_parts, or_parts, not-false, ltb-false}
+use Rattle.std.specs.List.{list_any, list_all}
+use Rattle.std.proofs.lemmas.Bool.{and_parts, or_parts, not-false}
+use Rattle.resb_tree.specs.Words.{value_count}
 use Rattle.resb_tree.specs.declared.resource.Resource.{Resource}
 use Rattle.resb_tree.specs.declared.resource.Resource.TheVariants as r
 use Rattle.resb_tree.specs.Keys.{distinct, keys_in}
@@ -9,12 +11,12 @@ use Rattle.resb_tree.specs.Bodies.{Body}
 use Rattle.resb_tree.specs.Tree.{by_type, tree_at}
 use Rattle.resb_tree.specs.Arrays.{array_at}
 use Rattle.resb_tree.specs.Tables.{table16_at}
-use Rattle.resb.specs.Packing.{pack_units}
+use Rattle.resb.specs.Packing.{pack_units, most_unit}
 use Rattle.resb.specs.LaidTrees.{item, lay_all, laid}
 use Rattle.resb.specs.WrittenFiles.{most_of, most_entries}
-use Rattle.resb.specs.BadKeys.{any_bad, has_bad_key}
+use Rattle.resb.specs.BadKeys.{has_bad_key}
 use Rattle.resb.specs.Writing.{depth, has_wide_integer}
-use Rattle.resb.specs.Laws.{all_true, has_typed_parts}
+use Rattle.resb.specs.Laws.{has_typed_parts}
 use Rattle.resb.proofs.Cases.{by_variant}
 use Rattle.resb.proofs.PackedWords.{StandIn, Below, stand_front, stand_back}
 use Rattle.resb.proofs.PoolReads.{Each, each_append, Placed}
@@ -29,10 +31,10 @@ use Rattle.resb.specs.Entries.{values_in}
 -- ---- a tree that the words have room for
 
 abbrev pub Sound : Body → (List ℕ → ℕ) → ℕ → Resource → Type 0
-Sound b places levels t = (depth t ≤ levels) × (has_bad_key t ≡ false) × (has_wide_integer t ≡ false) × (most_entries t ≤ 65535) × (has_typed_parts t ≡ true) × Each (Placed b places) (keys_met t)
+Sound b places levels t = (depth t ≤ levels) × (has_bad_key t ≡ false) × (has_wide_integer t ≡ false) × (most_entries t ≤ most_unit) × (has_typed_parts t ≡ true) × Each (Placed b places) (keys_met t)
 
-items_sound : (b : Body) (places : List ℕ → ℕ) (levels : ℕ) (xs : List Resource) → most_of (map depth xs) ≤ levels → any_bad (map has_bad_key xs) ≡ false → any_bad (map has_wide_integer xs) ≡ false → most_of (map most_entries xs) ≤ 65535
-    → all_true (map has_typed_parts xs) ≡ true → Each (Placed b places) (item_keys (map keys_met xs)) → Each (Sound b places levels) xs
+items_sound : (b : Body) (places : List ℕ → ℕ) (levels : ℕ) (xs : List Resource) → most_of (map depth xs) ≤ levels → list_any has_bad_key xs ≡ false → list_any has_wide_integer xs ≡ false → most_of (map most_entries xs) ≤ most_unit
+    → list_all has_typed_parts xs ≡ true → Each (Placed b places) (item_keys (map keys_met xs)) → Each (Sound b places levels) xs
 items_sound b places levels [] d k w m p e = tt
 items_sound b places levels (x ∷ xs) d k w m p e =
     let bad = or_parts _ _ k in
@@ -82,7 +84,7 @@ parts_stand b levels places child xs own at s pos h le =
       room = omega (arith, le, len1, len2);
     }
 
-array_reads : (b : Body) (levels : ℕ) (places : List ℕ → ℕ) (at : ℕ) → b.end ≤ 268435456 → Child b levels places → (xs : List Resource) → Each (Sound b places levels) xs → Reads b (suc levels) places at (laid (r.Array xs)) (r.Array xs)
+array_reads : (b : Body) (levels : ℕ) (places : List ℕ → ℕ) (at : ℕ) → b.end ≤ value_count → Child b levels places → (xs : List Resource) → Each (Sound b places levels) xs → Reads b (suc levels) places at (laid (r.Array xs)) (r.Array xs)
 unfolding by_type array_at
 array_reads b levels places at fits child [] s = subst (λ w. Read b (suc levels) at w (r.Array [])) (sym (at_place (laid-Array []) places at)) (λ pos h le. at_type b levels 8 0 (lit< tt))
 array_reads b levels places at fits child (x ∷ xs) s = subst (λ w. Read b (suc levels) at w (r.Array (x ∷ xs))) (sym (array_over (x ∷ xs) places (omega arith) at)) (λ pos h le.
@@ -91,7 +93,7 @@ array_reads b levels places at fits child (x ∷ xs) s = subst (λ w. Read b (su
     let len = length-lay_all (x ∷ xs) places at in
     at_type b levels 8 (at + length inner.0) (omega (arith, fits, p.room)) ∙ array_read (tree_at b levels) b (at + length inner.0) inner.1 (x ∷ xs) (omega (arith, pos)) (p.own_words.0 ∙ sym len, p.items) (omega (arith, p.room)) p.denoted)
 
-table_reads : (b : Body) (levels : ℕ) (places : List ℕ → ℕ) (at : ℕ) → b.end ≤ 268435456 → Child b levels places → (es : List (List ℕ × Resource)) → length (keys_in es) ≤ 65535 → distinct (keys_in es) ≡ true → Each (Placed b places) (keys_in es)
+table_reads : (b : Body) (levels : ℕ) (places : List ℕ → ℕ) (at : ℕ) → b.end ≤ value_count → Child b levels places → (es : List (List ℕ × Resource)) → length (keys_in es) ≤ most_unit → distinct (keys_in es) ≡ true → Each (Placed b places) (keys_in es)
     → Each (Sound b places levels) (values_in es) → Reads b (suc levels) places at (laid (r.Table es)) (r.Table es)
 unfolding by_type table16_at
 table_reads b levels places at fits child [] few apart k s = subst (λ w. Read b (suc levels) at w (r.Table [])) (sym (at_place (laid-Table []) places at)) (λ pos h le. at_type b levels 2 0 (lit< tt))
@@ -106,28 +108,28 @@ table_reads b levels places at fits child (e ∷ es) few apart k s = subst (λ w
     at_type b levels 2 (at + length inner.0) (omega (arith, fits, p.room, len))
     ∙ table_read (tree_at b levels) b places (at + length inner.0) inner.1 all (omega (arith, pos)) p.own_words (rw len at p.items) (omega (arith, p.room, len, items)) (omega (arith, count, few)) (places_low b places (keys_in all) k) k apart p.denoted)
 
-integer_reads : (b : Body) (levels : ℕ) (places : List ℕ → ℕ) (at v : ℕ) → v < 268435456 → Reads b (suc levels) places at (λ places at. ([], item 7 v)) (r.Integer v)
+integer_reads : (b : Body) (levels : ℕ) (places : List ℕ → ℕ) (at v : ℕ) → v < value_count → Reads b (suc levels) places at (λ places at. ([], item 7 v)) (r.Integer v)
 unfolding by_type
 integer_reads b levels places at v lt pos h le = at_type b levels 7 v lt
 
 -- ---- all levels
 
 -- a parent's names, and its parts
-parts_sound : (b : Body) (places : List ℕ → ℕ) (levels : ℕ) (t : Resource) (xs : List Resource) (names : List (List ℕ)) → IsParent t xs names → Sound b places (suc levels) t → (length names ≤ 65535) × (distinct names ≡ true) × Each (Placed b places) names × Each (Sound b places levels) xs
+parts_sound : (b : Body) (places : List ℕ → ℕ) (levels : ℕ) (t : Resource) (xs : List Resource) (names : List (List ℕ)) → IsParent t xs names → Sound b places (suc levels) t → (length names ≤ most_unit) × (distinct names ≡ true) × Each (Placed b places) names × Each (Sound b places levels) xs
 parts_sound b places levels t xs names p s =
     let bad = or_parts _ _ (sym p.bad ∙ s.1) in
     let good = and_parts _ _ (not-false _ bad.0) in
     let keys = p.placed b places s.5 in
     (omega (arith, p.entries, s.3), good.1, keys.0, items_sound b places levels xs (omega (arith, p.deep, s.0)) bad.1 (sym p.wide ∙ s.2) (omega (arith, p.entries, s.3)) (sym p.typed ∙ s.4) keys.1)
 
-pub laid_reads : (levels : ℕ) (b : Body) (places : List ℕ → ℕ) → b.end ≤ 268435456 → Child b levels places
+pub laid_reads : (levels : ℕ) (b : Body) (places : List ℕ → ℕ) → b.end ≤ value_count → Child b levels places
 laid_reads zero b places fits x at = λ s. absurd (let d = deep x in omega (arith, d, s.0))
 laid_reads (suc levels) b places fits x at = by_variant (λ t. Sound b places (suc levels) t → Reads b (suc levels) places at (laid t) t)
     (λ v s. subst (λ l. Reads b (suc levels) places at l (r.Text v)) (sym (laid-Text v)) (text_reads b levels places at v fits (sym (leaf-Text v).typed_is ∙ s.4)))
     (λ v s. subst (λ l. Reads b (suc levels) places at l (r.Bytes v)) (sym (laid-Bytes v)) (bytes_reads b levels places at v fits (sym (leaf-Bytes v).typed_is ∙ s.4)))
     (λ v s. let parts = parts_sound b places levels (r.Table v) (values_in v) (keys_in v) (parent-Table v) s in
     table_reads b levels places at fits (laid_reads levels b places fits) v parts.0 parts.1 parts.2 parts.3)
-    (λ v s. subst (λ l. Reads b (suc levels) places at l (r.Integer v)) (sym (laid-Integer v)) (integer_reads b levels places at v (let low = ltb-false 268435455 v (sym (leaf-Integer v).wide_is ∙ s.2) in omega (arith, low))))
+    (λ v s. subst (λ l. Reads b (suc levels) places at l (r.Integer v)) (sym (laid-Integer v)) (integer_reads b levels places at v (leb-false value_count v (sym (leaf-Integer v).wide_is ∙ s.2))))
     (λ v s. array_reads b levels places at fits (laid_reads levels b places fits) v (parts_sound b places levels (r.Array v) v [] (parent-Array v) s).3)
     (λ v s. subst (λ l. Reads b (suc levels) places at l (r.Integers v)) (sym (laid-Integers v)) (integers_reads b levels places at v fits))
     x

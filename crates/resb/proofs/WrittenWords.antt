@@ -12,7 +12,7 @@ use Rattle.resb.specs.Drafts.{Unwritten}
 use Rattle.resb.specs.Inside.Pooling.{pooled, Fills}
 use Rattle.resb.specs.Plan.{Fits, Refuses, keys_end, most_words}
 use Rattle.resb_tree.specs.Weight.{weight}
-use Rattle.resb.specs.Packing.{pack_bytes}
+use Rattle.resb.specs.Packing.{pack_bytes, most_unit}
 use Rattle.resb.specs.TreeKeys.{pool_bytes, key_pool, keys_met}
 use Rattle.resb.specs.Writing.{places_of, depth, has_wide_integer, is_too_large, writing, Writes}
 use Rattle.resb.specs.WrittenFiles.{most_of, most_entries, header, written_body, written}
@@ -50,8 +50,8 @@ near_all t = most_low _ _ (keys_met t) (each_met _ (keys_met t) (λ key there. p
 pub record Kept (t : Resource) : Type 0 where
   pub words : length (written t) ≤ 1048576
   pub shallow : depth t ≤ 8
-  pub near : most_of (places_of (key_pool t) 32) ≤ 65535
-  pub counts : most_entries t ≤ 65535
+  pub near : most_of (places_of (key_pool t) 32) ≤ most_unit
+  pub counts : most_entries t ≤ most_unit
   pub small : has_wide_integer t ≡ false
   pub light : weight t ≤ 8 * length (written t)
 
@@ -68,7 +68,7 @@ kept t h =
 pub keeps : (t : Resource) → Kept t → is_too_large t ≡ false
 unfolding is_too_large
 keeps t k =
-    rw (le-ltb 1048576 (length (written t)) k.words, le-ltb 8 (depth t) k.shallow, le-ltb 65535 (most_of (places_of (key_pool t) 32)) k.near, le-ltb 65535 (most_entries t) k.counts, k.small, le-ltb (8 * length (written t)) (weight t) k.light) refl
+    rw (le-ltb 1048576 (length (written t)) k.words, le-ltb 8 (depth t) k.shallow, le-ltb most_unit (most_of (places_of (key_pool t) 32)) k.near, le-ltb most_unit (most_entries t) k.counts, k.small, le-ltb (8 * length (written t)) (weight t) k.light) refl
 
 not_kept : (t : Resource) → (Kept t → ⊥) → is_too_large t ≡ true
 not_kept t never = true_from_ne_false (is_too_large t) (λ fits. never (kept t fits))
@@ -98,8 +98,8 @@ pool_told view t Memory words good h = h
 pool_told view t NoTree words good h = absurd h
 pool_told view t TooLarge words good h =
     let none = rw (pooled_is [] (keys_met t)) at h in
-    let far : nat_lt 65535 (most_of (places_of (key_pool t) 32)) ≡ true = grind arith in
-    too_large t good (not_kept t (λ k. both_ways _ (le-ltb 65535 (most_of (places_of (key_pool t) 32)) k.near) far))
+    let far : nat_lt most_unit (most_of (places_of (key_pool t) 32)) ≡ true = grind arith in
+    too_large t good (not_kept t (λ k. both_ways _ (le-ltb most_unit (most_of (places_of (key_pool t) 32)) k.near) far))
 pool_told view t BadKey words good h = absurd h
 
 pub refusal_told : (t : Resource) (e : ResbError) {Y : Type 0} (words : Y → List ℕ) (P : Type 0) → has_bad_key t ≡ false → (Kept t → P) → Refuses P e → Writes words (Err e) (writing t)

@@ -1,6 +1,6 @@
 -- When a draft is written (docs/FORMATS.md, "The writer").
-use Rattle.std.specs.Prelude.{◌≡◌, ◌≢◌, ℕ, ◌+◌, ◌*◌, ◌<◌, List, length, map}
-use Rattle.resb_tree.specs.Weight.{weights}
+use Rattle.std.specs.Prelude.{◌≡◌, ◌≢◌, ℕ, ◌+◌, ◌*◌, ◌<◌, List, length, map, sum_by}
+use Rattle.resb_tree.specs.Weight.{weight}
 use Rattle.resb_tree.specs.declared.error.ResbError.{ResbError}
 use Rattle.resb_tree.specs.declared.error.ResbError.TheVariants.{Memory, NoTree, TooLarge, BadKey}
 use Rattle.resb_tree.specs.declared.resource.Resource.{Resource}
@@ -15,5 +15,5 @@ bundle_length keys row = 6 + (words_end keys + length (lay_all (map laid row) (p
 abbrev pub Unwritten : List (List ℕ) → List Resource → ResbError → Type 0
 Unwritten keys row Memory = Unit {0}
 Unwritten keys row NoTree = length row ≢ 1
-Unwritten keys row TooLarge = (length row ≡ 1) × (8 * bundle_length keys row < weights row)
+Unwritten keys row TooLarge = (length row ≡ 1) × (8 * bundle_length keys row < sum_by weight row)
 Unwritten keys row BadKey = ⊥

@@ -1,12 +1,13 @@
 -- The words and the item that are written for a resource (docs/FORMATS.md, "The writer").
 use Rattle.std.specs.Prelude.{ℕ, ◌+◌, ◌*◌, List, [], ◌∷◌, ◌++◌, length, map}
+use Rattle.resb_tree.specs.Words.{value_count}
 use Rattle.resb_tree.specs.declared.resource.Resource.{Resource, fold-Resource}
 use Rattle.resb_tree.specs.declared.resource.Resource.TheOpen.{Resource-F}
 use Rattle.resb.specs.Packing.{pack_bytes, pack_units}
 
 -- an item is its type in the high 4 bits of a word, and its value in the low 28
 abbrev pub item : ℕ → ℕ → ℕ
-item type value = 268435456 * type + value
+item type value = value_count * type + value
 
 -- from a place for each key, and from a body word on: the words, and the item that stands for the resource
 abbrev pub Laid : Type 0

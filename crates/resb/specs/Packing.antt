@@ -1,6 +1,10 @@
 -- How bytes and 16-bit units are packed into words (docs/FORMATS.md, "The writer").
 use Rattle.std.specs.Prelude.{ℕ, ◌+◌, ◌*◌, List, [], ◌∷◌}
 
+-- the greatest 16-bit unit: the place of a key and the number of a table's entries are written as units
+abbrev pub most_unit : ℕ
+most_unit = 65535
+
 -- four bytes to a word
 abbrev pub pack_bytes : List ℕ → List ℕ
 pack_bytes [] = []

@@ -1,5 +1,6 @@
 -- The pool of keys: where each begins (docs/FORMATS.md, "Keys").
-use Rattle.std.specs.Prelude.{ℕ, ◌+◌, Bool, true, ◌&&◌, List, [], ◌∷◌, length, map}
+use Rattle.std.specs.Prelude.{ℕ, ◌+◌, Bool, List, length, map}
+use Rattle.std.specs.List.{list_all}
 use Rattle.std.specs.Borrow.{Bor}
 use Rattle.resb_tree.specs.Keys.{stands_in}
 use Rattle.resb.specs.TreeKeys.{key_place, pool_bytes}
@@ -23,5 +24,4 @@ place_of keys = key_place keys 32
 
 -- each of these is one of those
 abbrev pub all_in : List (List ℕ) → List (List ℕ) → Bool
-all_in [] those = true
-all_in (k ∷ ks) those = stands_in k those && all_in ks those
+all_in these those = list_all (λ k. stands_in k those) these

@@ -1,13 +1,16 @@
 -- What is answered for a tree that is to be written (docs/FORMATS.md, "The writer").
-use Rattle.std.specs.Prelude.{◌≡◌, ℕ, ◌+◌, ◌*◌, Bool, false, ◌||◌, nat_lt, if◌then◌else◌, List, [], ◌∷◌, length, map, Result, Ok, Err}
+use Rattle.std.specs.Prelude.{◌≡◌, ℕ, ◌+◌, ◌*◌, Bool, false, ◌||◌, nat_le, nat_lt, if◌then◌else◌, List, [], ◌∷◌, length, map, Result, Ok, Err}
+use Rattle.std.specs.List.{list_any}
+use Rattle.resb_tree.specs.Words.{value_count}
 use Rattle.resb_tree.specs.Weight.{weight}
 use Rattle.resb_tree.specs.declared.error.ResbError.{ResbError}
 use Rattle.resb_tree.specs.declared.error.ResbError.TheVariants.{Memory, TooLarge, BadKey}
 use Rattle.resb_tree.specs.declared.resource.Resource.{Resource, fold-Resource}
 use Rattle.resb_tree.specs.declared.resource.Resource.TheOpen.{Resource-F}
+use Rattle.resb.specs.Packing.{most_unit}
 use Rattle.resb.specs.TreeKeys.{key_pool}
 use Rattle.resb.specs.WrittenFiles.{most_of, most_entries, written}
-use Rattle.resb.specs.BadKeys.{any_bad, has_bad_key}
+use Rattle.resb.specs.BadKeys.{has_bad_key}
 
 -- a tree's levels by those of its children
 abbrev pub layer_depth : Resource-F ℕ → ℕ
@@ -21,9 +24,9 @@ depth = fold-Resource ℕ layer_depth
 
 -- some integer has more than 28 bits, by what holds of the children
 abbrev pub layer_wide : Resource-F Bool → Bool
-layer_wide (Resource-F.Integer v) = nat_lt 268435455 v
-layer_wide (Resource-F.Table entries) = any_bad (map (λ (e : List ℕ × Bool). e.1) entries)
-layer_wide (Resource-F.Array items) = any_bad items
+layer_wide (Resource-F.Integer v) = nat_le value_count v
+layer_wide (Resource-F.Table entries) = list_any (λ (e : List ℕ × Bool). e.1) entries
+layer_wide (Resource-F.Array items) = list_any (λ b. b) items
 layer_wide _ = false
 
 -- some integer has more than 28 bits
@@ -38,8 +41,8 @@ places_of (k ∷ ks) at = at ∷ places_of ks (at + length k + 1)
 -- the file has no room for the tree
 unfoldable pub is_too_large : Resource → Bool
 is_too_large t =
-    nat_lt 1048576 (length (written t)) || nat_lt 8 (depth t) || nat_lt 65535 (most_of (places_of (key_pool t) 32))
-    || nat_lt 65535 (most_entries t) || has_wide_integer t || nat_lt (8 * length (written t)) (weight t)
+    nat_lt 1048576 (length (written t)) || nat_lt 8 (depth t) || nat_lt most_unit (most_of (places_of (key_pool t) 32))
+    || nat_lt most_unit (most_entries t) || has_wide_integer t || nat_lt (8 * length (written t)) (weight t)
 
 -- the words, or why there are none
 abbrev pub writing : Resource → Result (List ℕ) ResbError

@@ -2,7 +2,7 @@ ghost use Rattle.std.specs.Prelude.{◌≡◌, ◌+◌, ◌*◌, ◌++◌, ◌�
 ghost use Rattle.resb.specs.Pool.{bare};
 ghost use Rattle.resb.specs.Plan.{most_words, Refuses};
 ghost use Rattle.resb.specs.Inside.Bundles.{bundle_of};
-ghost use Rattle.resb.specs.Packing.{pack_bytes};
+ghost use Rattle.resb.specs.Packing.{pack_bytes, most_unit};
 ghost use Rattle.resb.specs.TreeKeys.{pool_bytes};
 ghost use Rattle.resb.specs.WrittenFiles.{header};
 
@@ -40,7 +40,7 @@ fn key_words(alloc: Global, keys: &[&[u8]]) -> Result<Vec<u32>, AllocError>
 fn front_words(root: u32, keys_end: usize, end: usize, most: usize) -> [u32; 8]
     requires keys { keys_end ≤ most_words }
     requires end { end ≤ most_words }
-    requires most { most ≤ 65535 }
+    requires most { most ≤ most_unit }
     ensures { result ≡ root ∷ 7 ∷ keys_end ∷ end ∷ end ∷ most ∷ 0 ∷ keys_end ∷ [] }
 {
     let keys_end = keys_end as u32;
@@ -77,7 +77,7 @@ pub fn bundle_words(
     most: usize,
 ) -> Result<Vec<u32>, ResbError>
     requires room { keys_end + length resources.now ≤ most_words }
-    requires most { most ≤ 65535 }
+    requires most { most ≤ most_unit }
     ensures words { IfOk result (λ words. words.items
         ≡ bundle_of (bare pool.now.keys.items) keys_end root resources.now most) }
     ensures bound { OnOk result (weighed ≤ 8 * (6 + (keys_end + length resources.now))) }

@@ -1,6 +1,6 @@
-ghost use Rattle.std.specs.Prelude.{◌≡◌, ◌≢◌, ℕ, ◌+◌, ◌*◌, ◌<◌, ◌≤◌, true, List, [], ◌∷◌, ◌++◌, map, length, OnOk, IfOk, IfErr, Some};
+ghost use Rattle.std.specs.Prelude.{◌≡◌, ◌≢◌, ℕ, ◌+◌, ◌*◌, ◌<◌, ◌≤◌, true, List, [], ◌∷◌, ◌++◌, map, sum_by, length, OnOk, IfOk, IfErr, Some};
 ghost use Rattle.resb_tree.specs.Keys.{stands_in, distinct};
-ghost use Rattle.resb_tree.specs.Weight.{sum_of};
+ghost use Rattle.resb.specs.Packing.{most_unit};
 ghost use Rattle.resb.specs.Pool.{all_in, bare, words_end};
 ghost use Rattle.resb.specs.Inside.KeyPlaces.{places_in};
 ghost use Rattle.resb.specs.Plan.{most_words, Refuses};
@@ -74,8 +74,8 @@ fn are_known(keys: &[&[u8]], pool: &KeyPool<'_>) -> bool
 
 /// What the bytes of keys leave of the weight.
 fn without_keys(left: usize, keys: &[&[u8]]) -> Result<usize, ResbError>
-    ensures rest { IfOk result (λ rest. rest + sum_of (map length (bare keys.now)) ≡ left) }
-    ensures err { IfErr result (Refuses (sum_of (map length (bare keys.now)) ≤ left)) }
+    ensures rest { IfOk result (λ rest. rest + sum_by length (bare keys.now) ≡ left) }
+    ensures err { IfErr result (Refuses (sum_by length (bare keys.now) ≤ left)) }
 {
     let mut rest = left;
     for key in keys {
@@ -91,9 +91,9 @@ fn without_keys(left: usize, keys: &[&[u8]]) -> Result<usize, ResbError>
 fn push_places(keys: &[&[u8]], pool: &KeyPool<'_>, units: &mut Vec<u16>) -> Result<(), ResbError>
     ensures units { OnOk result
         (units.new.items ≡ units.old.items ++ map (places_in pool.now) (bare keys.now)) }
-    ensures bound { OnOk result (most_of (map (places_in pool.now) (bare keys.now)) ≤ 65535) }
+    ensures bound { OnOk result (most_of (map (places_in pool.now) (bare keys.now)) ≤ most_unit) }
     ensures err { IfErr result
-        (Refuses (most_of (map (places_in pool.now) (bare keys.now)) ≤ 65535)) }
+        (Refuses (most_of (map (places_in pool.now) (bare keys.now)) ≤ most_unit)) }
 {
     for key in keys {
         let at = pool.place(*key);
@@ -217,7 +217,7 @@ impl<'k> Draft<'k> {
 
     /// An empty row behind the keys of a pool.
     pub(crate) fn over(alloc: Global, pool: KeyPool<'k>) -> Result<Draft<'k>, ResbError>
-        requires near { most_of (places_of (bare pool.keys.items) 32) ≤ 65535 }
+        requires near { most_of (places_of (bare pool.keys.items) 32) ≤ most_unit }
         requires good { all_keys (bare pool.keys.items) ≡ true }
         ensures holds { IfOk result (λ draft. Holds draft (bare pool.entry.keys.items) []) }
         ensures err { IfErr result

@@ -1,9 +1,9 @@
-ghost use Rattle.std.specs.Prelude.{◌≡◌, ℕ, true, [], ◌∷◌, ◌++◌, map, OnOk, IfOk};
-ghost use Rattle.resb_tree.specs.Keys.{stands_in, keys_in};
-ghost use Rattle.resb.specs.Pool.{bare, place_of};
+ghost use Rattle.std.specs.Prelude.{◌≡◌, true, [], ◌∷◌, ◌++◌, map, OnOk};
+ghost use Rattle.resb_tree.specs.Keys.{stands_in};
+ghost use Rattle.resb.specs.Pool.{bare};
 ghost use Rattle.resb.specs.Entries.{told_values};
 ghost use Rattle.resb.specs.Inside.Pooling.{added, pooled, Fills};
-ghost use Rattle.resb.specs.TreeKeys.{keys_met, item_keys, entry_keys, pool_bytes, key_pool};
+ghost use Rattle.resb.specs.TreeKeys.{keys_met, item_keys, entry_keys, key_pool};
 
 use crate::pool::KeyPool;
 use resb_tree::{Key, ResbError, Resource};

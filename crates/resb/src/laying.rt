@@ -2,6 +2,7 @@ ghost use Rattle.std.specs.Prelude.{◌≡◌, ◌+◌, ◌<◌, ◌≤◌, ◌+
 ghost use Rattle.resb.specs.Plan.{most_words, Refuses};
 ghost use Rattle.resb.specs.Inside.Laying.{no_places};
 ghost use Rattle.resb.specs.LaidTrees.{laid};
+ghost use Rattle.resb_tree.specs.Words.{value_count};
 ghost use Rattle.resb_tree.specs.declared.resource.Resource.TheVariants as r;
 
 use crate::packing::{push_bytes, push_text};
@@ -114,8 +115,8 @@ pub fn lay_integers(values: &[u32], base: usize, out: &mut Vec<u32>) -> Result<u
 /// The item of an integer, which has no words.
 pub fn integer_item(value: u32) -> Result<u32, ResbError>
     ensures item { IfOk result (λ v. v ≡ 1879048192 + value) }
-    ensures bound { OnOk result (value < 268435456) }
-    ensures err { IfErr result (Refuses (value < 268435456)) }
+    ensures bound { OnOk result (value < value_count) }
+    ensures err { IfErr result (Refuses (value < value_count)) }
 {
     if value >= 268_435_456 {
         return Err(ResbError::TooLarge);

@@ -1,7 +1,8 @@
-ghost use Rattle.std.specs.Prelude.{◌≡◌, ◌&&◌, map, IfOk};
+ghost use Rattle.std.specs.Prelude.{◌≡◌, IfOk};
+ghost use Rattle.std.specs.List.{list_any};
 ghost use Rattle.resb_tree.specs.Keys.{keys_in};
 ghost use Rattle.resb.specs.Entries.{values_in};
-ghost use Rattle.resb.specs.BadKeys.{is_key, all_keys, any_bad, has_bad_key};
+ghost use Rattle.resb.specs.BadKeys.{is_key, all_keys, has_bad_key};
 
 use resb_tree::{Key, Resource, are_distinct};
 use sqlite_items::Items;
@@ -33,7 +34,7 @@ fn all_keys(entries: &[(Key, Resource)]) -> bool
 
 #[cycle(bad)]
 fn bad_key_in_items(alloc: Global, items: &[Resource]) -> Result<bool, AllocError>
-    ensures { IfOk result (λ answer. answer ≡ any_bad (map has_bad_key items.now)) }
+    ensures { IfOk result (λ answer. answer ≡ list_any has_bad_key items.now) }
 {
     for item in items {
         if has_bad_key(alloc, item)? {
@@ -45,7 +46,7 @@ fn bad_key_in_items(alloc: Global, items: &[Resource]) -> Result<bool, AllocErro
 
 #[cycle(bad)]
 fn bad_key_in_values(alloc: Global, entries: &[(Key, Resource)]) -> Result<bool, AllocError>
-    ensures { IfOk result (λ answer. answer ≡ any_bad (map has_bad_key (values_in entries.now))) }
+    ensures { IfOk result (λ answer. answer ≡ list_any has_bad_key (values_in entries.now)) }
 {
     for (_, value) in entries {
         if has_bad_key(alloc, value)? {

@@ -3,6 +3,7 @@ ghost use Rattle.resb_tree.specs.Keys.{keys_in};
 ghost use Rattle.resb_tree.specs.declared.resource.Resource.{Resource};
 ghost use Rattle.resb_tree.specs.declared.resource.Resource.TheVariants as r;
 ghost use Rattle.resb.specs.Entries.{values_in};
+ghost use Rattle.resb.specs.Packing.{most_unit};
 ghost use Rattle.resb.specs.Plan.{most_words};
 ghost use Rattle.resb.specs.Inside.Laying.{Lays, Stands};
 ghost use Rattle.resb.specs.WrittenFiles.{most_of};
@@ -78,7 +79,7 @@ pub fn push_table(kept: usize, base: usize, laying: &mut Laying) -> Result<u32, 
     ensures items { OnOk result (laying.new.items.items ≡ take kept laying.old.items.items) }
     ensures lays { (places : List ℕ → ℕ) (es : List (List ℕ × Resource)) (old : List ℕ)
         → Stands (values_in es) places base old laying.old.words.items
-        (drop kept laying.old.items.items) → most_of (map places (keys_in es)) ≤ 65535
+        (drop kept laying.old.items.items) → most_of (map places (keys_in es)) ≤ most_unit
         → laying.old.units.items ≡ length es ∷ map places (keys_in es)
         → Lays (r.Table es) places base old laying.new.words.items result }
 {

@@ -2,6 +2,7 @@
 use Rattle.std.proofs.Common.{◌≡◌, ℕ, suc, ◌<◌, Bool, true, false, List, [], ◌∷◌, ◌++◌, length, take, drop, get_or, drop-cons, Option, Some, cond, refl, sym, ap, ◌∙◌}
 use Rattle.std.specs.Str.{bytes_eq}
 use Rattle.std.proofs.lemmas.Option.{slice_get-get_or}
+use Rattle.std.proofs.lemmas.Cmp.{nat_list_eq_equiv}
 use Rattle.std.proofs.lemmas.Slice.Eq.{bytes_eq-Decides}
 use Rattle.resb_tree.specs.declared.resource.Resource.{Resource, out-Resource}
 use Rattle.resb_tree.specs.declared.resource.Resource.TheOpen.{Resource-F}
@@ -9,7 +10,6 @@ use Rattle.resb_tree.specs.declared.resource.Resource.TheVariants as r
 use Rattle.resb_tree.specs.declared.resource.Resource.TheVariants.{rolls-Table}
 use Rattle.resb_tree.specs.declared.resource.Resource.TheViews.{out-roll-Resource}
 use Rattle.resb_tree.specs.Fields.{first_with, without_first, without_layer, without_field, field_layer, field_in, StandsFirst}
-use Rattle.resb_tree.proofs.KeySets.{bytes_eq_sym}
 
 abbrev Entries : Type 0
 Entries = List (List ℕ × Resource)
@@ -34,7 +34,7 @@ first_here key es at d lt named passed =
 -- ---- the first entries with other keys
 
 other_name : (other name key : List ℕ) → bytes_eq name key ≡ true → bytes_eq other key ≡ false → bytes_eq name other ≡ false
-other_name other name key same apart = let e : name ≡ key = (bytes_eq-Decides name key).0 same in rw e (bytes_eq_sym key other ∙ apart)
+other_name other name key same apart = let e : name ≡ key = (bytes_eq-Decides name key).0 same in rw e (nat_list_eq_equiv.symm key other ∙ apart)
 
 others_first : (key other : List ℕ) (es : Entries) → bytes_eq other key ≡ false → first_with other (without_first key es) ≡ first_with other es
 others_first key other [] apart = refl

@@ -5,20 +5,14 @@ use Rattle.std.specs.Ordering.{is_eq, nat_cmp}
 use Rattle.std.specs.Cmp.Lexicographic.{slice_cmp}
 use Rattle.std.specs.List.{list_any}
 use Rattle.std.specs.Str.{bytes_eq}
-use Rattle.std.specs.Bool.{one_answer}
 use Rattle.std.proofs.Math.Bool.{and-false}
 use Rattle.std.proofs.lemmas.Bool.{not-false, not-true}
+use Rattle.std.proofs.lemmas.Cmp.{nat_list_eq_equiv}
 use Rattle.std.proofs.lemmas.Map.Text.{is_eq-slice_cmp}
-use Rattle.std.proofs.lemmas.Slice.Eq.{bytes_eq-Decides}
 use Rattle.resb_tree.specs.Keys.{stands_in, distinct, keys_in}
 
 abbrev pub by_bytes : Bor (List ℕ) → Bor (List ℕ) → Ordering
 by_bytes x y = slice_cmp nat_cmp x.now y.now
-
-pub bytes_eq_sym : (xs ys : List ℕ) → bytes_eq xs ys ≡ bytes_eq ys xs
-bytes_eq_sym xs ys =
-    let h = bytes_eq-Decides ys xs in
-    one_answer _ _ (bytes_eq-Decides xs ys) (λ e. sym (h.0 e), λ e. h.1 (sym e))
 
 has_is : (ks : List (Bor (List ℕ))) (q : Bor (List ℕ)) → list_any (λ k. is_eq (by_bytes q k)) ks ≡ list_any (λ k. bytes_eq q.now k.now) ks
 has_is [] q = refl
@@ -59,5 +53,5 @@ pub gains : {A : Type 0} (es : List (List ℕ × A)) (at : ℕ) (d : List ℕ ×
     → list_any (λ k. is_eq (by_bytes q k)) more ≡ cond (is_eq (by_bytes key q)) true (list_any (λ k. is_eq (by_bytes q k)) ks)
     → list_any (λ k. bytes_eq q.now k.now) more ≡ stands_in q.now (keys_in (drop (at - 1) es))
 gains es at d key q ks more pos le e has grown =
-    let same : is_eq (by_bytes key q) ≡ bytes_eq q.now key.now = is_eq-slice_cmp key.now q.now ∙ bytes_eq_sym key.now q.now in
+    let same : is_eq (by_bytes key q) ≡ bytes_eq q.now key.now = is_eq-slice_cmp key.now q.now ∙ nat_list_eq_equiv.symm key.now q.now in
     sym (has_is more q) ∙ grown ∙ rw (same, has_is ks q, has, keys_from es at d pos le, ← e) refl

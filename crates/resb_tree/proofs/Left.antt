@@ -1,8 +1,9 @@
 -- What the walk leaves of a limit is the limit without the weight of the tree.
 use Rattle.std.proofs.Common.{◌≡◌, ℕ, zero, suc, ◌+◌, ◌-◌, ◌*◌, ◌/◌, ◌%◌, ◌≤◌, Bool, true, false, cond, leb, eqb, List, [], ◌∷◌, length, Option, Some, None, refl, ap, sym, ◌∙◌, inl, inr, arith}
-use Rattle.std.specs.Prelude.{slice_index, map}
+use Rattle.std.specs.Prelude.{slice_index, map, sum_by}
 use Rattle.std.proofs.lemmas.Bool.{le-leb, lt-leb}
 use Rattle.std.proofs.lemmas.Bool.Decides.{leb_tells, nat_tests}
+use Rattle.std.proofs.lemmas.List.Sums.{sum_by-cons}
 use Rattle.resb_tree.specs.declared.resource.Resource.{Resource}
 use Rattle.resb_tree.specs.declared.resource.Resource.TheVariants as r
 use Rattle.resb_tree.specs.declared.forms.ArrayForm.{ArrayForm}
@@ -10,7 +11,7 @@ use Rattle.resb_tree.specs.declared.forms.ArrayForm.TheVariants as array
 use Rattle.resb_tree.specs.declared.forms.TableForm.{TableForm}
 use Rattle.resb_tree.specs.declared.forms.TableForm.TheVariants as table
 use Rattle.resb_tree.specs.Words.{run, unit_in, byte_in}
-use Rattle.resb_tree.specs.Weight.{weight, weights}
+use Rattle.resb_tree.specs.Weight.{weight}
 use Rattle.resb_tree.specs.Keys.{distinct}
 use Rattle.resb_tree.specs.Bodies.{◌>>=◌, when, Body, area_unit, counted}
 use Rattle.resb_tree.specs.Arrays.{all_of, array_at, short_array_at}
@@ -21,11 +22,10 @@ use Rattle.resb_tree.specs.Forms.{item_in, entry_in}
 use Rattle.resb_tree.specs.Inside.Counts.{no_items, array_count, no_entries, table_count}
 use Rattle.resb_tree.specs.Inside.Left.{spent, counted_left, short_text_left, items_left, array_left, key_left, entries_left, table_left}
 use Rattle.resb_tree.specs.Inside.Spans.{short_span}
-use Rattle.resb_tree.specs.Inside.Weights.{entry_weights}
 use Rattle.resb_tree.specs.Inside.Places.{the_tree, root_there}
 use Rattle.resb_tree.specs.Inside.KeyPlaces.{keys_there}
 use Rattle.resb_tree.specs.Inside.Walk.{nested_left, typed_left, left_behind}
-use Rattle.resb_tree.proofs.Weights.{weight-Integer, weight-Integers, weight-Array, weight-Text, weight-Bytes, weight-Table}
+use Rattle.resb_tree.proofs.Weights.{entry_weight, weight-Integer, weight-Integers, weight-Array, weight-Text, weight-Bytes, weight-Table}
 use Rattle.resb_tree.proofs.Runs.{length_run}
 use Rattle.resb_tree.proofs.Spans.{short_text_span}
 
@@ -95,11 +95,11 @@ short_left b v limit = rw (short_text_span b v) (by (short_span b v))
 abbrev Leaves : (ℕ → ℕ → Option ℕ) → (ℕ → Option Resource) → Type 0
 Leaves one tree = (item limit : ℕ) → one item limit ≡ left_of weight limit (tree item)
 
-items_are : (one : ℕ → ℕ → Option ℕ) (tree : ℕ → Option Resource) → Leaves one tree → (items : List ℕ) (limit : ℕ) → items_left one items limit ≡ left_of weights limit (all_of tree items)
+items_are : (one : ℕ → ℕ → Option ℕ) (tree : ℕ → Option Resource) → Leaves one tree → (items : List ℕ) (limit : ℕ) → items_left one items limit ≡ left_of (sum_by weight) limit (all_of tree items)
 items_are one tree h [] limit = rw (le-leb 0 limit (omega arith)) (ap (λ (n : ℕ). Some n) (omega arith))
 items_are one tree h (item ∷ items) limit =
     rw (h item limit) (bind_same (left_of weight limit (tree item)) _ _ (items_are one tree h items))
-    ∙ then_left weight weights weights (λ x xs. x ∷ xs) (λ x xs. refl) limit (tree item) (all_of tree items)
+    ∙ then_left weight (sum_by weight) (sum_by weight) (λ x xs. x ∷ xs) (sum_by-cons weight) limit (tree item) (all_of tree items)
 
 -- an array of either form
 abbrev pub array_by : ArrayForm → (ℕ → Option Resource) → Body → ℕ → Option Resource
@@ -117,7 +117,7 @@ parts_left w make same none light false (Some n) left found h limit = bind_same 
 array_is : (form : ArrayForm) (one : ℕ → ℕ → Option ℕ) (tree : ℕ → Option Resource) → Leaves one tree → (b : Body) (v limit : ℕ) → array_left form one b v limit ≡ left_of weight limit (array_by form tree b v)
 unfolding array_left
 array_is form one tree h b v limit =
-    parts_left weights (λ xs. r.Array xs) weight-Array [] refl (no_items form v) (array_count form b v) (λ n. items_left one (run (item_in form b) (v + 1) n)) (λ n. all_of tree (run (item_in form b) (v + 1) n))
+    parts_left (sum_by weight) (λ xs. r.Array xs) weight-Array [] refl (no_items form v) (array_count form b v) (λ n. items_left one (run (item_in form b) (v + 1) n)) (λ n. all_of tree (run (item_in form b) (v + 1) n))
     (λ n. items_are one tree h (run (item_in form b) (v + 1) n)) limit
 
 -- ---- tables
@@ -130,18 +130,18 @@ unfolding key_left
 key_is b place limit = bind_twice (key_at b place) (λ key. Some (length key)) (λ n. spent limit n)
 
 entry_left : (limit : ℕ) (name : Option (List ℕ)) (value : Option Resource) (others : Option Entries)
-    → (left_of length limit name >>= λ n. left_of weight n value >>= λ p. left_of entry_weights p others) ≡ left_of entry_weights limit (name >>= λ n. value >>= λ x. others >>= λ es. Some ((n, x) ∷ es))
+    → (left_of length limit name >>= λ n. left_of weight n value >>= λ p. left_of (sum_by entry_weight) p others) ≡ left_of (sum_by entry_weight) limit (name >>= λ n. value >>= λ x. others >>= λ es. Some ((n, x) ∷ es))
 entry_left limit None value others = refl
 entry_left limit (Some n) None others = bind_none (spent limit (length n))
 entry_left limit (Some n) (Some x) others =
-    sym (bind_twice (spent limit (length n)) (λ left. spent left (weight x)) (λ left. left_of entry_weights left others))
-    ∙ ap (λ (s : Option ℕ). s >>= λ left. left_of entry_weights left others) (spent_more limit (length n) (weight x)) ∙ by others
+    sym (bind_twice (spent limit (length n)) (λ left. spent left (weight x)) (λ left. left_of (sum_by entry_weight) left others))
+    ∙ ap (λ (s : Option ℕ). s >>= λ left. left_of (sum_by entry_weight) left others) (spent_more limit (length n) (weight x)) ∙ by others
   where
-    by : (others : Option Entries) → (spent limit (length n + weight x) >>= λ left. left_of entry_weights left others) ≡ left_of entry_weights limit (others >>= λ es. Some ((n, x) ∷ es))
+    by : (others : Option Entries) → (spent limit (length n + weight x) >>= λ left. left_of (sum_by entry_weight) left others) ≡ left_of (sum_by entry_weight) limit (others >>= λ es. Some ((n, x) ∷ es))
     by None = bind_none (spent limit (length n + weight x))
-    by (Some es) = spent_more limit (length n + weight x) (entry_weights es)
+    by (Some es) = rw (sum_by-cons entry_weight (n, x) es) (spent_more limit (length n + weight x) (sum_by entry_weight es))
 
-entries_are : (b : Body) (one : ℕ → ℕ → Option ℕ) (tree : ℕ → Option Resource) → Leaves one tree → (places : List (ℕ × ℕ)) (limit : ℕ) → entries_left (key_left b) one places limit ≡ left_of entry_weights limit (entries_of (key_at b) tree places)
+entries_are : (b : Body) (one : ℕ → ℕ → Option ℕ) (tree : ℕ → Option Resource) → Leaves one tree → (places : List (ℕ × ℕ)) (limit : ℕ) → entries_left (key_left b) one places limit ≡ left_of (sum_by entry_weight) limit (entries_of (key_at b) tree places)
 entries_are b one tree h [] limit = rw (le-leb 0 limit (omega arith)) (ap (λ (n : ℕ). Some n) (omega arith))
 entries_are b one tree h (e ∷ es) limit =
     rw (key_is b e.0 limit) (bind_same (left_of length limit (key_at b e.0)) _ _ (λ n. rw (h e.1 n) (bind_same (left_of weight n (tree e.1)) _ _ (entries_are b one tree h es))))
@@ -164,13 +164,13 @@ keys_are b tree (e ∷ es) = by (key_at b e.0) refl (tree e.1) (entries_of (key_
     by (Some n) h (Some x) (Some os) before = rw (h, before) refl
 
 apart_left : (ks : List (List ℕ)) (found : Option Entries) → KeysAre ks found → (limit : ℕ)
-    → (left_of entry_weights limit found >>= λ rest. when (distinct ks) rest) ≡ left_of entry_weights limit (found >>= λ es. when (distinct (map (λ e. e.0) es)) es)
+    → (left_of (sum_by entry_weight) limit found >>= λ rest. when (distinct ks) rest) ≡ left_of (sum_by entry_weight) limit (found >>= λ es. when (distinct (map (λ e. e.0) es)) es)
 apart_left ks None h limit = refl
 apart_left ks (Some es) h limit = rw h (by (distinct ks))
   where
-    by : (apart : Bool) → (spent limit (entry_weights es) >>= λ rest. when apart rest) ≡ left_of entry_weights limit (when apart es)
-    by true = bind_all (spent limit (entry_weights es))
-    by false = bind_none (spent limit (entry_weights es))
+    by : (apart : Bool) → (spent limit (sum_by entry_weight es) >>= λ rest. when apart rest) ≡ left_of (sum_by entry_weight) limit (when apart es)
+    by true = bind_all (spent limit (sum_by entry_weight es))
+    by false = bind_none (spent limit (sum_by entry_weight es))
 
 -- a table of each form
 abbrev pub table_by : TableForm → (ℕ → Option Resource) → Body → ℕ → Option Resource
@@ -189,7 +189,7 @@ unfolding table_left
 table_is form one tree h b v limit =
     let places = λ (n : ℕ). run (entry_in form b v n) 0 n in
     let found = λ (n : ℕ). entries_of (key_at b) tree (places n) in
-    parts_left entry_weights (λ es. r.Table es) weight-Table [] refl (no_entries form v) (table_count form b v) (λ n left. entries_left (key_left b) one (places n) left >>= λ rest. when (distinct (keys_there b (places n))) rest)
+    parts_left (sum_by entry_weight) (λ es. r.Table es) weight-Table [] refl (no_entries form v) (table_count form b v) (λ n left. entries_left (key_left b) one (places n) left >>= λ rest. when (distinct (keys_there b (places n))) rest)
     (λ n. found n >>= λ es. when (distinct (map (λ e. e.0) es)) es)
     (λ n left. rw (entries_are b one tree h (places n) left) (apart_left (keys_there b (places n)) (found n) (keys_are b tree (places n)) left)) limit
     ∙ ap (λ (t : Option Resource). left_of weight limit (cond (no_entries form v) (Some (r.Table [])) t)) (bind_same (table_count form b v) _ _ (λ n. table_made (found n)))

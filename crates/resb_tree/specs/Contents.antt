@@ -1,5 +1,6 @@
 -- What a resource holds, as its readers tell it (docs/FORMATS.md, "Items").
-use Rattle.std.specs.Prelude.{ℕ, ◌%◌, List, Option, Some, None, if◌then◌else◌, nat_lt, ℤ, pos, ◌-ℤ◌, option_map}
+use Rattle.std.specs.Prelude.{ℕ, ◌%◌, List, Option, Some, None, ℤ, option_map}
+use Rattle.resb_tree.specs.Words.{value_count, sign_extended}
 use Rattle.resb_tree.specs.declared.resource.Resource.{Resource, out-Resource}
 use Rattle.resb_tree.specs.declared.resource.Resource.TheOpen.{Resource-F}
 
@@ -50,16 +51,12 @@ entries_in t = entries_layer (out-Resource t)
 
 -- the low 28 bits of an integer, by its outermost layer
 abbrev pub index_layer : Resource-F Resource → Option ℕ
-index_layer (Resource-F.Integer v) = Some (v % 268435456)
+index_layer (Resource-F.Integer v) = Some (v % value_count)
 index_layer _ = None
 
 -- the low 28 bits of an integer, unsigned
 abbrev pub index_in : Resource → Option ℕ
 index_in t = index_layer (out-Resource t)
-
--- 28 bits with their sign
-abbrev pub sign_extended : ℕ → ℤ
-sign_extended v = if nat_lt v 134217728 then pos v else pos v -ℤ pos 268435456
 
 -- the low 28 bits of an integer, with their sign
 abbrev pub signed_in : Resource → Option ℤ

@@ -8,4 +8,3 @@ pub mod Places
 pub mod Slots
 pub mod Spans
 pub mod Walk
-pub mod Weights

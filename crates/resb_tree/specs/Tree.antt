@@ -1,5 +1,6 @@
 -- The tree that the words of a bundle denote (ICU resource bundle, format 2; docs/FORMATS.md, "Items").
 use Rattle.std.specs.Prelude.{ℕ, zero, suc, ◌/◌, ◌%◌, slice_index, Option, Some, None, if◌then◌else◌, ◌==◌, nat_le}
+use Rattle.resb_tree.specs.Words.{value_count}
 use Rattle.resb_tree.specs.Weight.{weight}
 use Rattle.resb_tree.specs.declared.resource.Resource.{Resource}
 use Rattle.resb_tree.specs.declared.resource.Resource.TheVariants as r
@@ -25,7 +26,7 @@ by_type one b t v =
 -- what an item denotes with so many levels left, its own among them
 unfoldable pub tree_at : Body → ℕ → ℕ → Option Resource
 tree_at b zero item = None
-tree_at b (suc levels) item = by_type (tree_at b levels) b (item / 268435456) (item % 268435456)
+tree_at b (suc levels) item = by_type (tree_at b levels) b (item / value_count) (item % value_count)
 
 -- the tree of the root item, of at most 8 levels, where its weight is within the limit
 unfoldable pub denoted : Body → ℕ → Option Resource

@@ -1,7 +1,8 @@
 ghost use Rattle.std.specs.Prelude.{◌≡◌, ℕ, ◌<◌, List, false, None, IfSome, IfNone};
 ghost use Rattle.std.specs.Str.{bytes_eq};
 ghost use Rattle.std.specs.Option.{option_copied};
-ghost use Rattle.resb_tree.specs.Contents.{text_in, bytes_in, integers_in, items_in, entries_in, index_in, signed_in, sign_extended};
+ghost use Rattle.resb_tree.specs.Words.{value_count, sign_extended};
+ghost use Rattle.resb_tree.specs.Contents.{text_in, bytes_in, integers_in, items_in, entries_in, index_in, signed_in};
 ghost use Rattle.resb_tree.specs.Fields.{field_in, first_with, without_first, without_field, StandsFirst, seen};
 
 use crate::key::Key;
@@ -71,7 +72,7 @@ fn take_value(tree: &mut Resource, key: &[u8]) -> Option<Resource>
 
 /// The low 28 bits of a number with their sign.
 pub fn sign_extended(v: u32) -> i32
-    requires { v < 268435456 }
+    requires { v < value_count }
     ensures { result ≡ sign_extended v }
 {
     if v < 134_217_728 {

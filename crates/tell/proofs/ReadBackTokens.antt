@@ -9,25 +9,26 @@ use Rattle.std.proofs.lemmas.Str.Parse.{IsNumeralModel, numerals_by_fold}
 use Rattle.interim.specs.declared.errors.Span.{Span}
 use Rattle.interim.specs.TokenKinds.{Token, Kind, Number}
 use Rattle.interim.specs.Tokens.{more, split_at, onward, tokens, kind_of}
-use Rattle.interim.specs.Characters.{skip, is_digit, is_blank, decimal_from}
+use Rattle.std.specs.Char.{is_ascii_digit}
+use Rattle.interim.specs.Characters.{skip, is_blank, decimal_from}
 
 -- ---- digits
 
 abbrev are_digits : List ℕ → Bool
 are_digits [] = true
-are_digits (d ∷ ds) = is_digit d && are_digits ds
+are_digits (d ∷ ds) = is_ascii_digit d && are_digits ds
 
 own : IsNumeralModel (λ ds. are_digits ds ≡ true) (decimal_from 0)
 own = numerals_by_fold _ (search rules) decimal_from (search rules)
 
 -- digits before a space are all that a run of digits takes
-digits_run : (ds rest : List ℕ) → are_digits ds ≡ true → take_while is_digit (ds ++ 32 ∷ rest) ≡ ds
+digits_run : (ds rest : List ℕ) → are_digits ds ≡ true → take_while is_ascii_digit (ds ++ 32 ∷ rest) ≡ ds
 digits_run [] rest h = refl
 digits_run (d ∷ ds) rest h =
-    let parts = and_parts (is_digit d) (are_digits ds) h in
-    take_while-cons is_digit d (ds ++ 32 ∷ rest) ∙ rw (parts.0, digits_run ds rest parts.1) refl
+    let parts = and_parts (is_ascii_digit d) (are_digits ds) h in
+    take_while-cons is_ascii_digit d (ds ++ 32 ∷ rest) ∙ rw (parts.0, digits_run ds rest parts.1) refl
 
-more_digits : (b : ℕ) (bs rest : List ℕ) → is_digit b ≡ true → are_digits bs ≡ true → length bs ≤ 3 → more b (bs ++ 32 ∷ rest) ≡ length bs
+more_digits : (b : ℕ) (bs rest : List ℕ) → is_ascii_digit b ≡ true → are_digits bs ≡ true → length bs ≤ 3 → more b (bs ++ 32 ∷ rest) ≡ length bs
 unfolding more
 more_digits b bs rest digit digits few = rw (digit, digits_run bs rest digits) (omega arith)
 
@@ -41,7 +42,7 @@ split_digits : (n : ℕ) (ds rest : List ℕ) (total : ℕ) → decimal_from 0 d
 unfolding split_at kind_of
 split_digits n [] rest total same some few h = absurd (omega arith)
 split_digits n (b ∷ bs) rest total same some few h =
-    let parts = and_parts (is_digit b) (are_digits bs) h in
+    let parts = and_parts (is_ascii_digit b) (are_digits bs) h in
     let blank : is_blank b ≡ false = grind (arith, nat_tests, parts.0) in (
       record { start = total - length (b ∷ bs ++ 32 ∷ rest); end = total - length (32 ∷ rest) },
       rw (← same, blank, more_digits b bs rest parts.0 parts.1 (omega arith), parts.0, take-append_seam bs (32 ∷ rest), drop-append_seam bs (32 ∷ rest)) refl,

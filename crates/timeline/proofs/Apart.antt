@@ -12,7 +12,9 @@ use Rattle.timeline.specs.Zone.{PlainZone, PlainRule}
 use Rattle.timeline.specs.Table.{PlainSeconds, pair_of_number, transition_to, table_from, zone_from, AreEntries}
 use Rattle.timeline.specs.Timeline.{offset_or}
 use Rattle.timeline.specs.TableLaws.{IsSmall}
-use Rattle.timeline.specs.Inside.CheckSteps.{AreNear, AreWalled, EndBefore, InPart, IsSecondAt, IsSecondBefore, KeepsAt, table_before, table_walls, walls_before}
+use Rattle.timeline.specs.Inside.EntryWalls.{AreNear, AreWalled, EndBefore}
+use Rattle.timeline.specs.Inside.EntryLaws.{InPart}
+use Rattle.timeline.specs.Inside.TableChecks.{IsSecondAt, IsSecondBefore, KeepsAt, table_before, table_walls, walls_before}
 use Rattle.timeline.specs.Inside.Apart.{IsApart, AreSmall}
 use Rattle.timeline.proofs.LeastFaults.{all_kept}
 use Rattle.timeline.proofs.CheckLaws.{since_read}

@@ -15,7 +15,9 @@ use Rattle.timeline.proofs.TimelineEntries.{is_there}
 use Rattle.timeline.specs.Neighbours.{Step, IsNear, IsWalled}
 use Rattle.timeline.specs.TableLaws.{IsSmall}
 use Rattle.timeline.specs.Laws.{EndsBefore, LiesIn}
-use Rattle.timeline.specs.Inside.CheckSteps.{walls, AreNear, AreWalled, EndBefore, LieIn, IsSecondAt, IsSecondBefore, EntryKeeps, KeepsAt, TableKeeps, table_walls, walls_before}
+use Rattle.timeline.specs.Inside.EntryWalls.{walls, AreNear, AreWalled, EndBefore, LieIn}
+use Rattle.timeline.specs.Inside.EntryLaws.{EntryKeeps}
+use Rattle.timeline.specs.Inside.TableChecks.{IsSecondAt, IsSecondBefore, KeepsAt, TableKeeps, table_walls, walls_before}
 
 -- walls by their parts
 pub walls_are : (s : Step) (a b c : ℤ) → a ≡ s.since → b ≡ s.since +ℤ int_min s.before s.after → c ≡ s.since +ℤ int_max s.before s.after

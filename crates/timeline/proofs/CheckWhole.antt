@@ -16,7 +16,9 @@ use Rattle.timeline.specs.TableLaws.{IsSmall, KeepsParts, KeepsOrder}
 use Rattle.timeline.specs.Laws.{EndsBefore, IsLawful}
 use Rattle.timeline.specs.Fault.{Keeps, IsLeastBroken}
 use Rattle.timeline.specs.Inside.LeastFaults.{TellsLeast}
-use Rattle.timeline.specs.Inside.CheckSteps.{walls, AreNear, AreWalled, EndBefore, TableKeeps, table_before, table_walls, walls_before, SizeKept, RuleKeeps, YearsKeep}
+use Rattle.timeline.specs.Inside.EntryWalls.{walls, AreNear, AreWalled, EndBefore}
+use Rattle.timeline.specs.Inside.TableChecks.{TableKeeps, table_before, table_walls, walls_before}
+use Rattle.timeline.specs.Inside.RuleChecks.{SizeKept, RuleKeeps, YearsKeep}
 use Rattle.timeline.proofs.LeastFaults.{Told, tells-same}
 use Rattle.timeline.proofs.CheckLaws.{near-there, near-back, walled-there, walled-back, ends-there, ends-back}
 

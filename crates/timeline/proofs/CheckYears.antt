@@ -14,7 +14,8 @@ use Rattle.timeline.specs.Timeline.{offset_of}
 use Rattle.timeline.specs.Neighbours.{Step, step, IsNear, IsWalled}
 use Rattle.timeline.specs.Laws.{LiesIn}
 use Rattle.timeline.specs.Inside.LeastFaults.{TellsLeast}
-use Rattle.timeline.specs.Inside.CheckSteps.{walls, kind_seconds, PairKeeps, YearKeeps, YearsKeep}
+use Rattle.timeline.specs.Inside.EntryWalls.{walls}
+use Rattle.timeline.specs.Inside.RuleChecks.{kind_seconds, PairKeeps, YearKeeps, YearsKeep}
 use Rattle.timeline.proofs.LeastFaults.{Told, tells-same}
 use Rattle.timeline.proofs.CheckLaws.{near-there, near-back, walled-there, walled-back, lies-there, lies-back}
 use Rattle.timeline.proofs.RuleKinds.{kind_of_year, first_entry-same, second_entry-same}

@@ -1,16 +1,10 @@
 -- Tables whose seconds are compared one by one.
-use Rattle.std.proofs.Common.{◌≡◌, ℕ, zero, suc, ◌<◌, ◌&&◌, Bool, true, false, List, [], ◌∷◌, length, Some, ℤ, map, refl, sym, ◌∙◌, arith}
+use Rattle.std.proofs.Common.{◌≡◌, ℕ, zero, suc, ◌<◌, ◌&&◌, Bool, true, false, List, [], ◌∷◌, length, Some, ℤ, map, refl, arith}
 use Rattle.std.specs.Prelude.{slice_get, option_map}
 use Rattle.std.specs.Ordering.{int_eq}
 use Rattle.std.specs.Cmp.Lexicographic.{pointwise}
 use Rattle.std.proofs.lemmas.Int.{ints}
 use Rattle.timeline.specs.declared.offset.Transition.{Transition}
-
-equal_is : (a b : ℤ) → a ≡ b → int_eq a b ≡ true
-equal_is a b h = grind (arith, ints)
-
-unequal_is : (a b : ℤ) → (a ≡ b → ⊥) → int_eq a b ≡ false
-unequal_is a b h = grind (arith, ints)
 
 -- not as long
 pub other_length : (xs ys : List Transition) → (length xs ≡ length ys → ⊥) → pointwise int_eq (map (λ (e : Transition). e.since) xs) (map (λ (e : Transition). e.since) ys) ≡ false
@@ -32,7 +26,8 @@ other_second (x ∷ xs) [] n s t at_s at_t differ = cc
 other_second (x ∷ xs) (y ∷ ys) zero s t at_s at_t differ =
     let first : x.since ≡ s = cc in
     let second : y.since ≡ t = cc in
-    rw (unequal_is x.since y.since (λ same. differ (sym first ∙ same ∙ second))) refl
+    let apart : int_eq x.since y.since ≡ false = grind (arith, ints, first, second, differ) in
+    rw apart refl
 other_second (x ∷ xs) (y ∷ ys) (suc n) s t at_s at_t differ = by (int_eq x.since y.since) refl (other_second xs ys n s t at_s at_t differ)
   where
     by : (b : Bool) → int_eq x.since y.since ≡ b → pointwise int_eq (map (λ (e : Transition). e.since) xs) (map (λ (e : Transition). e.since) ys) ≡ false
@@ -52,4 +47,5 @@ all_same (x ∷ xs) (y ∷ ys) to long is same =
     let here : Some x.since ≡ Some y.since = same 0 (omega (arith, is)) in
     let first : x.since ≡ y.since = cc here in
     let rest = all_same xs ys (length xs) (omega (arith, long)) refl (λ n lt. same (suc n) (omega (arith, is, lt))) in
-    rw (equal_is x.since y.since first, rest) refl
+    let equal : int_eq x.since y.since ≡ true = grind (arith, ints, first) in
+    rw (equal, rest) refl

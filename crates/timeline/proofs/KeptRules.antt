@@ -15,7 +15,8 @@ use Rattle.timeline.specs.DateView.{mode_number}
 use Rattle.timeline.specs.Kinds.{place_in_kind}
 use Rattle.civil.specs.Laws.{KindsOfYear}
 use Rattle.timeline.specs.RulePromises.{RulesGoByKind}
-use Rattle.timeline.specs.Inside.KeptRules.{places_of, time_mode, kind_date, KeptRule, kept_rule, taken_off, kind_second, kept_start, kept_end, LieWithin}
+use Rattle.timeline.specs.Inside.KeptRules.{places_of, time_mode, kind_date, KeptRule, kept_rule, LieWithin}
+use Rattle.timeline.specs.Inside.KeptYears.{taken_off, kind_second, kept_start, kept_end}
 
 pub places_of-at : (r : DateRule) (k : ℕ) → k < 14 → get_or (places_of r) k (pos 0) ≡ place_in_kind r k
 unfolding places_of

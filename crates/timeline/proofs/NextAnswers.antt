@@ -16,7 +16,9 @@ use Rattle.timeline.specs.TableLaws.{KeepsOrder}
 use Rattle.timeline.specs.WallPromises.{IsOfYear}
 use Rattle.timeline.specs.Inside.YearEntries.{entries_in, IsNearestYear, StartsInside}
 use Rattle.timeline.specs.Transitions.{Counts, IsNext, AnswersNext, IsUpTo, IsPrev, AnswersPrev}
-use Rattle.timeline.specs.Inside.TransitionSteps.{FirstIn, FirstFrom, LastBelow, IsYearOf, IsCut, IsTableCut, year_place, is_idle}
+use Rattle.timeline.specs.Inside.FoundEntries.{FirstIn, FirstFrom, LastBelow}
+use Rattle.timeline.specs.Inside.EntryCuts.{IsCut, IsTableCut}
+use Rattle.timeline.specs.Inside.YearTransitions.{IsYearOf, year_place, is_idle}
 use Rattle.timeline.proofs.Entries.{below_or_not}
 use Rattle.timeline.proofs.TimelineEntries.{IsRuleYear, table_entry, first_at, second_at, is_there, entry_within}
 use Rattle.timeline.proofs.TimelineRises.{if_some, before_first, before_second}

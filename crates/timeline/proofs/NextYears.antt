@@ -14,7 +14,8 @@ use Rattle.timeline.specs.Timeline.{entry_at, before_entry, offset_of}
 use Rattle.timeline.specs.Laws.{IsLawful}
 use Rattle.timeline.specs.Inside.YearEntries.{entries_in, rule_entries_in}
 use Rattle.timeline.specs.Transitions.{Counts}
-use Rattle.timeline.specs.Inside.TransitionSteps.{FirstIn, FirstFrom, LastBelow, IsYearOf, year_place, is_idle, first_of_year, last_of_year}
+use Rattle.timeline.specs.Inside.FoundEntries.{FirstIn, FirstFrom, LastBelow}
+use Rattle.timeline.specs.Inside.YearTransitions.{IsYearOf, year_place, is_idle, first_of_year, last_of_year}
 use Rattle.timeline.proofs.Entries.{below_or_not}
 use Rattle.timeline.proofs.TimelineEntries.{IsRuleYear, Stands, in_table, is_first, is_second, stands, first_at, second_at, same_second, table_at}
 use Rattle.timeline.proofs.TimelineRises.{before_first, before_second, same_rule}

@@ -7,7 +7,8 @@ use Rattle.timeline.specs.Zone.{PlainZone}
 use Rattle.timeline.specs.Timeline.{entry_at}
 use Rattle.timeline.specs.Laws.{IsLawful}
 use Rattle.timeline.specs.Transitions.{Counts, AnswersNext, IsUpTo, AnswersPrev}
-use Rattle.timeline.specs.Inside.TransitionSteps.{FirstFrom, LastBelow, IsCut}
+use Rattle.timeline.specs.Inside.FoundEntries.{FirstFrom, LastBelow}
+use Rattle.timeline.specs.Inside.EntryCuts.{IsCut}
 use Rattle.timeline.proofs.Entries.{below_or_not}
 use Rattle.timeline.proofs.Chain.{rises}
 use Rattle.timeline.proofs.TimelineEntries.{entry_count, entry_within, entry_there}

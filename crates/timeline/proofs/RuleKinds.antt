@@ -1,5 +1,5 @@
 -- The dates of a rule depend on the year's first day and kind alone.
-use Rattle.std.proofs.Common.{◌≡◌, ℕ, zero, suc, ◌+◌, ◌%◌, ◌<◌, Bool, true, false, not, cond, nat_lt, refl, sym, ap, ◌∙◌, ℤ, pos, ◌+ℤ◌, ◌-ℤ◌, ◌*ℤ◌, arith}
+use Rattle.std.proofs.Common.{◌≡◌, ℕ, zero, suc, ◌+◌, ◌%◌, ◌<◌, Bool, true, false, not, cond, nat_lt, refl, sym, ap, ℤ, pos, ◌+ℤ◌, ◌-ℤ◌, ◌*ℤ◌, arith}
 use Rattle.std.specs.Prelude.{unsigned_abs, int_lt}
 use Rattle.std.specs.Ordering.{int_eq}
 use Rattle.std.proofs.lemmas.Int.{ints}
@@ -32,10 +32,6 @@ unfolding days_of_months
 months_by_leap y z same zero = refl
 months_by_leap y z same (suc m) = rw (months_by_leap y z same m, same) refl
 
--- days with one weekday have one weekday as many days later
-weekday_later : (a b n : ℤ) → weekday_of a ≡ weekday_of b → weekday_of (a +ℤ n) ≡ weekday_of (b +ℤ n)
-weekday_later a b n same = omega (arith, signed_arith)
-
 -- two choices made alike, between numbers that are d apart
 apart_choice : (p q : Bool) (x y u v d : ℤ) → p ≡ q → x ≡ u +ℤ d → y ≡ v +ℤ d → cond p x y ≡ cond q u v +ℤ d
 apart_choice true true x y u v d e f g = f
@@ -48,7 +44,7 @@ first_on-same : (n : ℕ) (w a b : ℤ) → weekday_of a ≡ weekday_of b → fi
 unfolding first_on
 first_on-same zero w a b same = omega (arith, ints)
 first_on-same (suc n) w a b same =
-    let next = first_on-same n w (a +ℤ pos 1) (b +ℤ pos 1) (weekday_later a b (pos 1) same) in
+    let next = first_on-same n w (a +ℤ pos 1) (b +ℤ pos 1) (omega (arith, signed_arith, same)) in
     apart_choice (int_eq (weekday_of b) w) (int_eq (weekday_of a) w) _ _ _ _ _ (ap (λ v. int_eq v w) (sym same)) (omega (arith, ints)) (omega (arith, ints, next))
 
 -- and so is the last one up to them
@@ -56,7 +52,7 @@ last_on-same : (n : ℕ) (w a b : ℤ) → weekday_of a ≡ weekday_of b → las
 unfolding last_on
 last_on-same zero w a b same = omega (arith, ints)
 last_on-same (suc n) w a b same =
-    let next = last_on-same n w (a -ℤ pos 1) (b -ℤ pos 1) (weekday_later a b (pos 0 -ℤ pos 1) same) in
+    let next = last_on-same n w (a -ℤ pos 1) (b -ℤ pos 1) (omega (arith, signed_arith, same)) in
     apart_choice (int_eq (weekday_of b) w) (int_eq (weekday_of a) w) _ _ _ _ _ (ap (λ v. int_eq v w) (sym same)) (omega (arith, ints)) (omega (arith, ints, next))
 
 -- places in two years of one kind: they are as far apart as the years' first days, and have one weekday
@@ -72,17 +68,15 @@ month_place y z m same =
     let months = months_by_leap y z leap m in
     record {
       apart = omega (arith, ints, months);
-      weekday = weekday_later (year_start y) (year_start z) (pos (days_of_months y m)) (left.0 ∙ sym right.0) ∙ ap (λ n. weekday_of (year_start z +ℤ pos n)) months;
+      weekday = omega (arith, signed_arith, left.0, right.0, months);
     }
 
 anchor_place : (r : DateRule) (y z : ℤ) → year_kind y ≡ year_kind z → SamePlace y z (anchor r y) (anchor r z)
 anchor_place r y z same =
     let month = month_place y z r.month same in
-    let left : month_start y r.month +ℤ (pos (unsigned_abs r.day) -ℤ pos 1) ≡ anchor r y = omega (arith, ints) in
-    let right : month_start z r.month +ℤ (pos (unsigned_abs r.day) -ℤ pos 1) ≡ anchor r z = omega (arith, ints) in
     record {
       apart = omega (arith, ints, month.apart);
-      weekday = sym (ap weekday_of left) ∙ weekday_later _ _ (pos (unsigned_abs r.day) -ℤ pos 1) month.weekday ∙ ap weekday_of right;
+      weekday = omega (arith, signed_arith, month.weekday);
     }
 
 -- the dates in two years of one kind are as far apart as the years

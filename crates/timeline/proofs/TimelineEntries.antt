@@ -4,7 +4,6 @@ use Rattle.std.specs.Prelude.{int_lt, slice_get}
 use Rattle.std.proofs.lemmas.Int.{ints}
 use Rattle.std.proofs.lemmas.Bool.{ltb-true, ltb-false, lt-ltb, le-ltb, eq-eqb, ne_eqb, cases_lt}
 use Rattle.std.proofs.lemmas.Option.{slice_get_cases, slice_get_within}
-use borrow.Author.Differences.{up}
 use Rattle.timeline.specs.declared.offset.Transition.{Transition}
 use Rattle.timeline.specs.Zone.{PlainZone, PlainRule}
 use Rattle.timeline.specs.Rule.{start_is_first, first_entry, second_entry}
@@ -131,24 +130,29 @@ is_there {A = A} xs n lt = by (slice_get_cases xs n).1
     by (inl some) = (some.0, some.2)
     by (inr past) = let past_it = past.0 in absurd (omega arith)
 
+-- how many numbers from 0 on are below this one
+abbrev numbers_below : ℤ → ℕ
+numbers_below (pos n) = n
+numbers_below (negsuc n) = 0
+
 rule_count : Option PlainRule → ℕ
 rule_count None = 0
-rule_count (Some r) = 2 * up (pos 2147483647 -ℤ r.first_year)
+rule_count (Some r) = 2 * numbers_below (pos 2147483647 -ℤ r.first_year)
 
 pub entry_count : PlainZone → ℕ
 entry_count z = length z.table + rule_count z.rule
 
-year_within : (first : ℤ) (j : ℕ) → (first +ℤ pos j) <ℤ pos 2147483647 → j < up (pos 2147483647 -ℤ first)
+year_within : (first : ℤ) (j : ℕ) → (first +ℤ pos j) <ℤ pos 2147483647 → j < numbers_below (pos 2147483647 -ℤ first)
 year_within first j below = by (pos 2147483647 -ℤ first) (omega (arith, ints))
   where
-    by : (a : ℤ) → pos j <ℤ a → j < up a
+    by : (a : ℤ) → pos j <ℤ a → j < numbers_below a
     by (pos n) lt = omega (arith, ints)
     by (negsuc n) lt = absurd (omega (arith, ints))
 
-year_below : (first : ℤ) (j : ℕ) → j < up (pos 2147483647 -ℤ first) → (first +ℤ pos j) <ℤ pos 2147483647
+year_below : (first : ℤ) (j : ℕ) → j < numbers_below (pos 2147483647 -ℤ first) → (first +ℤ pos j) <ℤ pos 2147483647
 year_below first j within = let lt = by (pos 2147483647 -ℤ first) within in omega (arith, ints, lt)
   where
-    by : (a : ℤ) → j < up a → pos j <ℤ a
+    by : (a : ℤ) → j < numbers_below a → pos j <ℤ a
     by (pos n) lt = omega (arith, ints)
     by (negsuc n) lt = absurd (omega (arith, ints))
 
@@ -170,7 +174,7 @@ unfolding rule_count
 there_in_rule z n m None is place lt = absurd (omega arith)
 there_in_rule z n m (Some r) is place lt = by (even_or_odd m)
   where
-    year : m / 2 < up (pos 2147483647 -ℤ r.first_year) → IsRuleYear z r (m / 2)
+    year : m / 2 < numbers_below (pos 2147483647 -ℤ r.first_year) → IsRuleYear z r (m / 2)
     year h = record { rule = is; below = year_below r.first_year (m / 2) h }
 
     by : ((m % 2 ≡ 0) × (m ≡ 2 * (m / 2))) ⊎ ((m % 2 ≡ 0 → ⊥) × (m ≡ suc (2 * (m / 2)))) → (e : Transition) × (entry_at z n ≡ Some e)
@@ -195,17 +199,17 @@ pub record CountsTo (z : PlainZone) (r : PlainRule) (c : ℕ) : Type 0 where
   pub years : (j : ℕ) → j < c → IsRuleYear z r j
   pub end : (y : ℤ) → r.first_year ≤ℤ y → pos 2147483647 ≤ℤ y → (r.first_year +ℤ pos c) ≤ℤ y
 
-last_year : (first y : ℤ) → first ≤ℤ y → pos 2147483647 ≤ℤ y → (first +ℤ pos (up (pos 2147483647 -ℤ first))) ≤ℤ y
+last_year : (first y : ℤ) → first ≤ℤ y → pos 2147483647 ≤ℤ y → (first +ℤ pos (numbers_below (pos 2147483647 -ℤ first))) ≤ℤ y
 last_year first y from past = let most = by (pos 2147483647 -ℤ first) (y -ℤ first) (omega (arith, ints, past)) (omega (arith, ints, from)) in omega (arith, ints, most)
   where
-    by : (a b : ℤ) → a ≤ℤ b → pos 0 ≤ℤ b → pos (up a) ≤ℤ b
+    by : (a b : ℤ) → a ≤ℤ b → pos 0 ≤ℤ b → pos (numbers_below a) ≤ℤ b
     by (pos n) b le positive = le
     by (negsuc n) b le positive = positive
 
 pub counts_to : (z : PlainZone) (r : PlainRule) → z.rule ≡ Some r → (c : ℕ) × CountsTo z r c
 unfolding entry_count rule_count
 counts_to z r rule = (
-  up (pos 2147483647 -ℤ r.first_year),
+  numbers_below (pos 2147483647 -ℤ r.first_year),
   record {
     count = rw rule refl;
     years = λ j lt. record { rule = rule; below = year_below r.first_year j lt };

@@ -12,7 +12,7 @@ use Rattle.timeline.specs.Neighbours.{Step, step, IsNear, IsWalled}
 use Rattle.timeline.specs.TableLaws.{IsSmall}
 use Rattle.timeline.specs.Laws.{LiesIn}
 use Rattle.timeline.specs.Inside.KeptRules.{places_of, KeptRule, kept_rule, LieWithin}
-use Rattle.timeline.specs.Inside.CheckSteps.{YearKeeps}
+use Rattle.timeline.specs.Inside.RuleChecks.{YearKeeps}
 use Rattle.timeline.specs.Inside.Apart.{LieApart}
 use Rattle.timeline.proofs.LeastFaults.{all_kept}
 use Rattle.timeline.proofs.SmallOffsets.{first_small, second_small}

@@ -1,12 +1,19 @@
 -- What serves private contracts alone: no reader needs it to know what the crate does.
 pub mod AnswerSteps
 pub mod Apart
-pub mod CheckSteps
 pub mod DataView
+pub mod EntryCuts
+pub mod EntryLaws
+pub mod EntryWalls
+pub mod FoundEntries
 pub mod KeptRules
 pub mod KeptView
+pub mod KeptYears
 pub mod LeastFaults
 pub mod PlacedView
-pub mod TransitionSteps
+pub mod Reach
+pub mod RuleChecks
+pub mod TableChecks
 pub mod YearEntries
+pub mod YearTransitions
 pub mod ZoneRuleView

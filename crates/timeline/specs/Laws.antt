@@ -2,7 +2,7 @@
 use Rattle.std.specs.Prelude.{◌≡◌, ℕ, length, slice_get, Some, IfSome, ℤ, pos, ◌+ℤ◌, ◌<ℤ◌, ◌≤ℤ◌}
 use Rattle.civil.specs.Calendar.{year_second}
 use Rattle.timeline.specs.declared.offset.Transition.{Transition}
-use Rattle.timeline.specs.Zone.{PlainZone, PlainRule}
+use Rattle.timeline.specs.Zone.{PlainZone, PlainRule, end_year}
 use Rattle.timeline.specs.Rule.{first_entry, second_entry}
 use Rattle.timeline.specs.Timeline.{before_entry, offset_of}
 use Rattle.timeline.specs.TableLaws.{KeepsParts, KeepsOrder, KeepsSize}
@@ -39,7 +39,7 @@ pub record IsYearLawful (r : PlainRule) (y : ℤ) : Type 0 where
 
 -- 8, year: both transitions of each year of the rule lie in that year
 abbrev pub KeepsYear : PlainZone → Type 0
-KeepsYear z = IfSome z.rule (λ r. (y : ℤ) → r.first_year ≤ℤ y → y <ℤ pos 2147483647 → IsYearLawful r y)
+KeepsYear z = IfSome z.rule (λ r. (y : ℤ) → r.first_year ≤ℤ y → y <ℤ end_year → IsYearLawful r y)
 
 -- a zone that keeps all eight
 pub record IsLawful (z : PlainZone) : Type 0 where

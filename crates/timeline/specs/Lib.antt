@@ -13,6 +13,7 @@ pub mod Ranges
 pub mod Rule
 pub mod RuleDays
 pub mod RulePromises
+pub mod RuleYears
 pub mod ShownWalls
 pub mod Table
 pub mod TableLaws

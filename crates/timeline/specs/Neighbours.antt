@@ -1,8 +1,8 @@
 -- Two transitions beside each other, and how they keep apart (docs/ZONES.md, "Laws").
-use Rattle.std.specs.Prelude.{◌≡◌, ℕ, ◌+◌, slice_get, Some, IfSome, ℤ, pos, ◌+ℤ◌, ◌<ℤ◌, ◌≤ℤ◌}
+use Rattle.std.specs.Prelude.{◌≡◌, ℕ, ◌+◌, slice_get, Some, IfSome, ℤ, ◌+ℤ◌, ◌<ℤ◌, ◌≤ℤ◌}
 use Rattle.timeline.specs.declared.offset.Transition.{Transition}
 use Rattle.timeline.specs.declared.offset.Offset.{Offset}
-use Rattle.timeline.specs.Zone.{PlainZone}
+use Rattle.timeline.specs.Zone.{PlainZone, end_year}
 use Rattle.timeline.specs.Rule.{first_entry, second_entry}
 use Rattle.timeline.specs.Timeline.{before_entry, offset_of}
 
@@ -33,7 +33,7 @@ TableNeighbours P z =
 -- the two transitions of a year of the rule
 abbrev pub YearNeighbours : (Step → Step → Type 0) → PlainZone → Type 0
 YearNeighbours P z =
-    IfSome z.rule (λ r. (y : ℤ) → r.first_year ≤ℤ y → y <ℤ pos 2147483647
+    IfSome z.rule (λ r. (y : ℤ) → r.first_year ≤ℤ y → y <ℤ end_year
     → P (step (offset_of (second_entry r y)) (first_entry r y)) (step (offset_of (first_entry r y)) (second_entry r y)))
 
 -- both walls of the first are not after the second's second, and the first's second is not after both walls of the second

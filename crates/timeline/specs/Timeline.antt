@@ -2,25 +2,24 @@
 use Rattle.std.specs.Prelude.{◌≡◌, ℕ, zero, suc, ◌+◌, ◌-◌, ◌*◌, ◌/◌, ◌%◌, ◌==◌, ◌≤◌, nat_lt, int_lt, if◌then◌else◌, length, slice_get, count_by, not, Option, Some, None, ℤ, pos, ◌+ℤ◌, ◌-ℤ◌, ◌<ℤ◌, ◌≤ℤ◌, unsigned_abs}
 use Rattle.timeline.specs.declared.offset.Transition.{Transition}
 use Rattle.timeline.specs.declared.offset.Offset.{Offset}
-use Rattle.timeline.specs.Zone.{PlainZone, PlainRule}
+use Rattle.timeline.specs.Zone.{PlainZone, PlainRule, end_year}
 use Rattle.timeline.specs.Rule.{first_entry, second_entry}
 
 -- the year of the mth entry of a rule: two for each year
 abbrev pub rule_year : PlainRule → ℕ → ℤ
 rule_year r m = r.first_year +ℤ pos (m / 2)
 
--- the mth entry of a rule, for the years from its first one on and below 2147483647
+-- the mth entry of a rule, for the years from its first one on and below the end
 abbrev pub rule_entry : Option PlainRule → ℕ → Option Transition
 rule_entry None m = None
 rule_entry (Some r) m =
-    if int_lt (rule_year r m) (pos 2147483647)
+    if int_lt (rule_year r m) end_year
     then Some (if m % 2 == 0 then first_entry r (rule_year r m) else second_entry r (rule_year r m))
     else None
 
 -- the nth entry of the timeline, counted from 0: those of the table, then those of the rule
 abbrev pub entry_at : PlainZone → ℕ → Option Transition
-entry_at z n =
-    if nat_lt n (length z.table) then slice_get z.table n else rule_entry z.rule (n - length z.table)
+entry_at z n = if nat_lt n (length z.table) then slice_get z.table n else rule_entry z.rule (n - length z.table)
 
 -- the offset that holds from a transition on
 abbrev pub offset_of : Transition → Offset
@@ -46,7 +45,7 @@ entry_bound z = length z.table + rule_entries z.rule
   where
     rule_entries : Option PlainRule → ℕ
     rule_entries None = 0
-    rule_entries (Some r) = 2 * unsigned_abs (pos 2147483647 -ℤ r.first_year)
+    rule_entries (Some r) = 2 * unsigned_abs (end_year -ℤ r.first_year)
 
 -- what holds at the second t by the first n entries: the last of them that is not after t, else the initial offset
 unfoldable pub in_force : PlainZone → ℤ → ℕ → Offset

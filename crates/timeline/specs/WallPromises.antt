@@ -2,7 +2,7 @@
 use Rattle.std.specs.Prelude.{◌≡◌, ◌⊎◌, ℕ, ◌+◌, Some, IfSome, ℤ, pos, ◌+ℤ◌, ◌-ℤ◌, ◌<ℤ◌, ◌≤ℤ◌}
 use Rattle.civil.specs.Calendar.{year_second}
 use Rattle.timeline.specs.declared.offset.PossibleOffset.{PossibleOffset}
-use Rattle.timeline.specs.Zone.{PlainZone, PlainRule}
+use Rattle.timeline.specs.Zone.{PlainZone, PlainRule, end_year}
 use Rattle.timeline.specs.Rule.{first_entry, second_entry}
 use Rattle.timeline.specs.Timeline.{offset_at, entry_at, table_place}
 use Rattle.timeline.specs.Placement.{IsPlaced, IsInStretch, Showing}
@@ -39,8 +39,8 @@ IsRuleEntry z r y n = (entry_at z n ≡ Some (first_entry r y)) ⊎ (entry_at z 
 pub record HasTwoCandidates (z : PlainZone) (y w : ℤ) : Type 0 where
   -- from the rule's first year on, in those of the year's two entries alone
   pub by_rule : IfSome z.rule (λ r. r.first_year ≤ℤ y → (n : ℕ) → IsInStretch z w n → IsRuleEntry z r y n)
-  -- and from the year 2147483647 on, which has none, in no stretch
-  pub past_rule : IfSome z.rule (λ r. r.first_year ≤ℤ y → pos 2147483647 ≤ℤ y → (n : ℕ) → IsInStretch z w n → ⊥)
+  -- and from the year that has none any more in no stretch
+  pub past_rule : IfSome z.rule (λ r. r.first_year ≤ℤ y → end_year ≤ℤ y → (n : ℕ) → IsInStretch z w n → ⊥)
   -- before that year, or without a rule, in those of two neighbours: with w taken as a second, the last entry of the table
   -- that is not after it, and the next
   pub by_table : IfSome z.rule (λ r. y <ℤ r.first_year) → (n : ℕ) → IsInStretch z w n → (n + 1 ≡ table_place z w) ⊎ (n ≡ table_place z w)

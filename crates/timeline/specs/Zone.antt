@@ -38,6 +38,10 @@ pub record PlainZone : Type 0 where
   pub type_map : List ℕ
   pub links : List ℕ
 
+-- rules have transitions in the years below this one, which is the last of 32 bits
+abbrev pub end_year : ℤ
+end_year = pos 2147483647
+
 -- a number of 32 bits with its sign
 abbrev pub fits_i32 : ℤ → Bool
 fits_i32 z = int_le (negsuc 2147483647) z && int_le z (pos 2147483647)

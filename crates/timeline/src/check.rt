@@ -1,16 +1,17 @@
 //! Whether a zone keeps the eight laws.
 ghost use Rattle.std.specs.Prelude.{◌≡◌, ℕ, ◌+◌, ◌-◌, ◌≤◌, ◌<◌, ◌↔◌, IsTrue, IfSome, Some, slice_get, nat_le, length, ◌+ℤ◌, ◌<ℤ◌, ◌≤ℤ◌};
 ghost use Rattle.civil.specs.Calendar.{example_year};
-ghost use Rattle.timeline.specs.Zone.{PlainRule};
-ghost use Rattle.timeline.specs.Rule.{second_entry};
 ghost use Rattle.timeline.specs.Timeline.{offset_of};
-ghost use Rattle.timeline.specs.Inside.KeptRules.{kept_rule};
+ghost use Rattle.timeline.specs.Inside.KeptRules.{OfItsRule};
 ghost use Rattle.timeline.specs.TableLaws.{IsSmall};
 ghost use Rattle.timeline.specs.Neighbours.{step};
 ghost use Rattle.timeline.specs.declared.offset.Transition.{Transition as Entry};
 ghost use Rattle.timeline.specs.Fault.{Keeps};
 ghost use Rattle.timeline.specs.Inside.LeastFaults.{TellsLeast};
-ghost use Rattle.timeline.specs.Inside.CheckSteps.{walls, AreNear, AreWalled, EndBefore, BeginFrom, LieIn, InPart, IsSecondAt, IsSecondBefore, IsPassed, EntryKeeps, KeepsAt, TableKeeps, table_before, table_walls, walls_before, PairKeeps, YearKeeps, YearsKeep, RuleKeeps, SizeKept};
+ghost use Rattle.timeline.specs.Inside.EntryWalls.{walls, AreNear, AreWalled, EndBefore, BeginFrom, LieIn};
+ghost use Rattle.timeline.specs.Inside.EntryLaws.{InPart, EntryKeeps};
+ghost use Rattle.timeline.specs.Inside.TableChecks.{IsSecondAt, IsSecondBefore, IsPassed, KeepsAt, TableKeeps, table_before, table_walls, walls_before};
+ghost use Rattle.timeline.specs.Inside.RuleChecks.{PairKeeps, YearKeeps, YearsKeep, RuleKeeps, SizeKept};
 ghost use Rattle.timeline.specs.Inside.Apart.{IsEnd};
 
 use crate::data::ZoneData;
@@ -383,8 +384,7 @@ fn pair_fault(first: Walls, second: Walls, low: i64, high: i64) -> Result<(), Zo
 /// The least law that the year of a kind from 2000 to 2024 breaks by a rule. Takes one step.
 fn year_fault<L: Ledger>(rule: &YearRule, kind: u8, steps: &mut Steps<L>) -> Result<(), ZoneFault>
     requires kind { kind < 14 }
-    ensures value { (r : PlainRule) → rule.now ≡ kept_rule r
-        → TellsLeast (YearKeeps r (example_year kind)) result }
+    ensures value { OfItsRule rule.now (λ r. TellsLeast (YearKeeps r (example_year kind)) result) }
     ensures ticks { steps.new ≡ steps.old + 1 }
 {
     counts_years();
@@ -415,7 +415,7 @@ fn offset_from(entry: &Transition) -> Offset
 /// Else it looks at one year of each kind, since all years of a kind break the same ones. Takes 14
 /// steps at most.
 fn years_fault<L: Ledger>(rule: &YearRule, steps: &mut Steps<L>) -> Result<(), ZoneFault>
-    ensures value { (r : PlainRule) → rule.now ≡ kept_rule r → TellsLeast (YearsKeep r) result }
+    ensures value { OfItsRule rule.now (λ r. TellsLeast (YearsKeep r) result) }
     ensures ticks { steps.new ≤ steps.old + 14 }
 {
     counts_years();
@@ -451,8 +451,7 @@ fn rule_fault<L: Ledger>(
     last: Offset,
     steps: &mut Steps<L>,
 ) -> Result<(), ZoneFault>
-    ensures value { (r : PlainRule) → rule.now ≡ kept_rule r
-        → TellsLeast (RuleKeeps r last) result }
+    ensures value { OfItsRule rule.now (λ r. TellsLeast (RuleKeeps r last) result) }
     ensures ticks { steps.new ≤ steps.old + 1 }
 {
     let (raw, sum) = rule.offsets();

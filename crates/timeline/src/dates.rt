@@ -9,7 +9,7 @@ ghost use Rattle.timeline.specs.Kinds.{place_in_kind};
 ghost use Rattle.timeline.specs.Inside.KeptRules.{places_of, kept_rule};
 ghost use Rattle.timeline.specs.DateView.{mode_number, day_code, plain_date, raw_of};
 ghost use Rattle.timeline.specs.Equal.{same_date, same_rule};
-ghost use Rattle.timeline.specs.Ranges.{IsDateInRange, AreDatesInRange};
+ghost use Rattle.timeline.specs.Ranges.{least_28, greatest_28, IsDateInRange, AreDatesInRange};
 
 use crate::rule::{KindDate, TimeMode, YearRule};
 use civil::days_before_month;
@@ -299,8 +299,8 @@ fn same_years(a: &YearRule, b: &YearRule) -> bool
 impl ZoneRule {
     /// A rule in a zone of that standard offset, from that year on; `None` where its offset leaves 32 bits.
     pub fn from_dates(placed: &PlacedDates, raw: i32, first_year: i32) -> Option<ZoneRule>
-        requires low { negsuc 134217727 ≤ℤ first_year }
-        requires high { first_year ≤ℤ pos 134217727 }
+        requires low { least_28 ≤ℤ first_year }
+        requires high { first_year ≤ℤ greatest_28 }
         ensures { result
             ≡ (if fits_i32 (raw +ℤ placed.now.extra)
             then Some (plain_rule placed.now raw first_year) else None) }

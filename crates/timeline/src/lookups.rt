@@ -1,12 +1,14 @@
 //! Where a second and a wall second stand in a zone's timeline.
-ghost use Rattle.std.specs.Prelude.{◌≡◌, ◌+◌, ◌-◌, ◌*◌, ◌^◌, ◌≤◌, ◌<◌, ℤ, pos, negsuc, ◌+ℤ◌, ◌<ℤ◌, ◌≤ℤ◌, int_lt, not, IfSome, [], ◌∷◌, length, slice_range, min};
+ghost use Rattle.std.specs.Prelude.{◌≡◌, ◌+◌, ◌-◌, ◌*◌, ◌^◌, ◌≤◌, ◌<◌, ℤ, ◌+ℤ◌, ◌<ℤ◌, int_lt, not, IfSome, [], ◌∷◌, length, slice_range, min};
 ghost use Rattle.civil.specs.Calendar.{year_second, day_of, wall_second};
-ghost use Rattle.timeline.specs.Zone.{PlainRule};
-ghost use Rattle.timeline.specs.Rule.{first_entry, second_entry};
-ghost use Rattle.timeline.specs.Inside.KeptRules.{kept_rule};
+ghost use Rattle.timeline.specs.Zone.{end_year};
+ghost use Rattle.timeline.specs.Ranges.{IsFirstYear};
+ghost use Rattle.timeline.specs.RuleYears.{TellsYear};
+ghost use Rattle.timeline.specs.Inside.KeptRules.{OfItsRule};
+ghost use Rattle.timeline.specs.Inside.Reach.{IsInReach, IsInside};
 ghost use Rattle.timeline.specs.TableLaws.{KeepsOrder};
 ghost use Rattle.timeline.specs.Laws.{IsLawful};
-ghost use Rattle.timeline.specs.Timeline.{table_place, before_entry, offset_at, offset_of};
+ghost use Rattle.timeline.specs.Timeline.{table_place, before_entry, offset_at};
 ghost use Rattle.timeline.specs.Lookups.{AnswersWall, IsDateTime};
 ghost use Rattle.timeline.specs.Inside.AnswerSteps.{answer_by, answer_from, offset_in_year};
 ghost use Rattle.timeline.specs.Inside.YearEntries.{rule_entries_in, entries_in, IsNearestYear, StartsInside};
@@ -74,14 +76,11 @@ fn year_from<L: Ledger>(
     year: i32,
     blank: Blank,
 ) -> (Offset, Transition, Transition)
-    requires year { year <ℤ pos 2147483647 }
+    requires year { year <ℤ end_year }
     requires name { blank.name ≡ L.name }
     requires parts { blank.parts ≡ L.parts }
     requires some { 0 < L.parts }
-    ensures before { (r : PlainRule) → rule.now ≡ kept_rule r
-        → result.0 ≡ offset_of (second_entry r year) }
-    ensures first { (r : PlainRule) → rule.now ≡ kept_rule r → result.1 ≡ first_entry r year }
-    ensures second { (r : PlainRule) → rule.now ≡ kept_rule r → result.2 ≡ second_entry r year }
+    ensures { OfItsRule rule.now (λ r. TellsYear r year result) }
 {
     let mut steps = Steps::<L>::new(blank);
     rule.year_at(year, &mut steps)
@@ -89,10 +88,8 @@ fn year_from<L: Ledger>(
 
 /// The same, where no step is counted.
 fn transitions(rule: &ZoneRule, year: i32) -> (Offset, Transition, Transition)
-    requires { year <ℤ pos 2147483647 }
-    ensures before { result.0 ≡ offset_of (second_entry rule.now year) }
-    ensures first { result.1 ≡ first_entry rule.now year }
-    ensures second { result.2 ≡ second_entry rule.now year }
+    requires { year <ℤ end_year }
+    ensures { TellsYear rule.now year result }
 {
     year_from::<Brand>(rule.years(), year, Blank::new(1))
 }
@@ -100,8 +97,7 @@ fn transitions(rule: &ZoneRule, year: i32) -> (Offset, Transition, Transition)
 /// The first year of a rule.
 fn first_year(rule: &ZoneRule) -> i32
     ensures value { result ≡ rule.now.first_year }
-    ensures low { negsuc 134217727 ≤ℤ result }
-    ensures high { result ≤ℤ pos 134217727 }
+    ensures range { IsFirstYear result }
 {
     rule.years().first_year()
 }
@@ -109,8 +105,7 @@ fn first_year(rule: &ZoneRule) -> i32
 /// The entries of a year of a rule.
 fn rule_entries(rule: &ZoneRule, year: i32) -> YearEntries
     ensures value { result ≡ rule_entries_in rule.now year }
-    ensures low { negsuc 2147483647 <ℤ rule.now.first_year }
-    ensures high { rule.now.first_year <ℤ pos 2147483647 }
+    ensures starts { IsInside rule.now.first_year }
 {
     if year < first_year(rule) {
         return YearEntries::Table;
@@ -195,8 +190,7 @@ fn day_number(year: i32, month: u8, day: u8) -> i64
     requires high { month ≤ 12 }
     requires first { 1 ≤ day }
     ensures value { result ≡ day_of year month day }
-    ensures low { negsuc 899999999999 ≤ℤ result }
-    ensures high { result ≤ℤ pos 900000000000 }
+    ensures reach { IsInReach result }
 {
     let months = days_before_month(year, month);
     days_before_year(year) + months as i64 + (day - 1) as i64

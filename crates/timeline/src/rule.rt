@@ -1,14 +1,15 @@
 //! The yearly rule of a zone, kept by kinds of year. Only `year_at` tells a year's transitions.
-ghost use Rattle.std.specs.Prelude.{◌≡◌, ◌+◌, ◌<◌, ℤ, pos, negsuc, ◌+ℤ◌, ◌-ℤ◌, ◌*ℤ◌, ◌<ℤ◌, ◌≤ℤ◌, IsTrue, if◌then◌else◌, not};
+ghost use Rattle.std.specs.Prelude.{◌≡◌, ◌+◌, ◌<◌, ℤ, pos, ◌+ℤ◌, ◌-ℤ◌, ◌*ℤ◌, ◌<ℤ◌, ◌≤ℤ◌, IsTrue, if◌then◌else◌, not};
 ghost use Rattle.std.specs.Ordering.{int_eq};
-ghost use Rattle.timeline.specs.Zone.{fits_i32};
-ghost use Rattle.timeline.specs.Zone.{PlainRule};
-ghost use Rattle.civil.specs.Calendar.{year_second};
+ghost use Rattle.timeline.specs.Zone.{fits_i32, end_year};
 ghost use Rattle.timeline.specs.TableLaws.{IsSmall};
-ghost use Rattle.timeline.specs.Rule.{first_entry, second_entry};
+ghost use Rattle.timeline.specs.Ranges.{greatest_28, IsFirstYear};
+ghost use Rattle.timeline.specs.RuleYears.{TellsYear};
 ghost use Rattle.timeline.specs.Timeline.{offset_of};
-ghost use Rattle.timeline.specs.Inside.KeptRules.{KeptRule, kept_rule, kind_second, taken_off, kept_start, kept_end, IsYearOf, LieWithin};
-ghost use Rattle.timeline.specs.Inside.Apart.{LieApart};
+ghost use Rattle.timeline.specs.Inside.KeptRules.{KeptRule, LieWithin, OfItsRule};
+ghost use Rattle.timeline.specs.Inside.KeptYears.{kind_second, taken_off, kept_start, kept_end, BeginsYear};
+ghost use Rattle.timeline.specs.Inside.Reach.{IsInReach};
+ghost use Rattle.timeline.specs.Inside.Apart.{YearsLieApart};
 
 use crate::laws::rules_go_by_kind;
 use crate::offset::{Offset, Transition, UtcOffset};
@@ -91,8 +92,7 @@ impl TimeMode {
 
 /// The second of a time of day at a place of a year.
 fn second_in(start: i64, place: i16, seconds: u32, taken_off: i32) -> i64
-    requires low { negsuc 799999999999 ≤ℤ start }
-    requires high { start ≤ℤ pos 800000000000 }
+    requires { IsInReach start }
     ensures { result ≡ pos 86400 *ℤ (start +ℤ place) +ℤ pos seconds -ℤ taken_off }
 {
     86_400 * (start + place as i64) + seconds as i64 - taken_off as i64
@@ -180,8 +180,7 @@ impl KindDate {
     /// The second of the date in a year of that first day and kind.
     fn second(&self, before: i32, raw: i32, start: i64, kind: u8) -> i64
         requires kind { kind < 14 }
-        requires low { negsuc 799999999999 ≤ℤ start }
-        requires high { start ≤ℤ pos 800000000000 }
+        requires start { IsInReach start }
         ensures { result ≡ kind_second self.now before raw start kind }
     {
         let taken = self.mode.taken_off(before, raw);
@@ -243,7 +242,7 @@ impl YearRule {
     pub fn offsets(&self) -> (i32, i32)
         ensures raw { result.0 ≡ self.now.raw }
         ensures sum { result.1 ≡ self.now.raw +ℤ self.now.extra }
-        ensures years { self.now.first_year ≤ℤ pos 134217727 }
+        ensures years { self.now.first_year ≤ℤ greatest_28 }
     {
         (self.raw, self.raw + self.extra)
     }
@@ -251,8 +250,7 @@ impl YearRule {
     /// The first year of the rule, from -134,217,728 to 134,217,727.
     pub fn first_year(&self) -> i32
         ensures value { result ≡ self.now.first_year }
-        ensures low { negsuc 134217727 ≤ℤ result }
-        ensures high { result ≤ℤ pos 134217727 }
+        ensures range { IsFirstYear result }
     {
         self.first_year
     }
@@ -260,8 +258,7 @@ impl YearRule {
     /// The start in a year of that first day and kind.
     fn start_in(&self, day: i64, kind: u8) -> Transition
         requires kind { kind < 14 }
-        requires low { negsuc 799999999999 ≤ℤ day }
-        requires high { day ≤ℤ pos 800000000000 }
+        requires day { IsInReach day }
         ensures { result ≡ kept_start self.now day kind }
     {
         let (raw, sum) = self.offsets();
@@ -275,8 +272,7 @@ impl YearRule {
     /// The end in a year of that first day and kind.
     fn end_in(&self, day: i64, kind: u8) -> Transition
         requires kind { kind < 14 }
-        requires low { negsuc 799999999999 ≤ℤ day }
-        requires high { day ≤ℤ pos 800000000000 }
+        requires day { IsInReach day }
         ensures { result ≡ kept_end self.now day kind }
     {
         let (raw, sum) = self.offsets();
@@ -290,12 +286,8 @@ impl YearRule {
         year: i32,
         steps: &mut Steps<L>,
     ) -> (Offset, Transition, Transition)
-        requires { year <ℤ pos 2147483647 }
-        ensures before { (r : PlainRule) → self.now ≡ kept_rule r
-            → result.0 ≡ offset_of (second_entry r year) }
-        ensures first { (r : PlainRule) → self.now ≡ kept_rule r → result.1 ≡ first_entry r year }
-        ensures second { (r : PlainRule) → self.now ≡ kept_rule r
-            → result.2 ≡ second_entry r year }
+        requires { year <ℤ end_year }
+        ensures year { OfItsRule self.now (λ r. TellsYear r year result) }
         ensures ticks { steps.new ≡ steps.old + 1 }
     {
         steps.tick();
@@ -306,14 +298,9 @@ impl YearRule {
     #[inline(always)]
     fn year_of(&self, day: i64, kind: u8) -> (Offset, Transition, Transition)
         requires kind { kind < 14 }
-        requires low { negsuc 799999999999 ≤ℤ day }
-        requires high { day ≤ℤ pos 800000000000 }
-        ensures before { (r : PlainRule) (y : ℤ) → self.now ≡ kept_rule r → IsYearOf y day kind
-            → result.0 ≡ offset_of (second_entry r y) }
-        ensures first { (r : PlainRule) (y : ℤ) → self.now ≡ kept_rule r → IsYearOf y day kind
-            → result.1 ≡ first_entry r y }
-        ensures second { (r : PlainRule) (y : ℤ) → self.now ≡ kept_rule r → IsYearOf y day kind
-            → result.2 ≡ second_entry r y }
+        requires day { IsInReach day }
+        ensures { (y : ℤ) → BeginsYear y day kind
+            → OfItsRule self.now (λ r. TellsYear r y result) }
     {
         rules_go_by_kind();
         in_order(
@@ -329,9 +316,7 @@ impl YearRule {
     pub(crate) fn places_lie_apart(&self) -> bool
         requires raw { IsSmall self.now.raw }
         requires sum { IsSmall (self.now.raw +ℤ self.now.extra) }
-        ensures { IsTrue result → (r : PlainRule) (y : ℤ) → self.now ≡ kept_rule r
-            → LieApart (year_second y) (first_entry r y).since (second_entry r y).since
-            (year_second (y +ℤ pos 1)) }
+        ensures { IsTrue result → OfItsRule self.now YearsLieApart }
     {
         counts_years();
         kinds_of_year();

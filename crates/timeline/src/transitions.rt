@@ -1,13 +1,16 @@
 //! The transition before a second, and the one after it.
-ghost use Rattle.std.specs.Prelude.{◌≡◌, ◌≤◌, ◌↔◌, ℕ, pos, negsuc, ◌<◌, ◌<ℤ◌, length, true, false, IsTrue, IfSome};
-ghost use Rattle.timeline.specs.Zone.{PlainRule};
+ghost use Rattle.std.specs.Prelude.{◌≡◌, ◌≤◌, ◌↔◌, ℕ, ◌<◌, ◌<ℤ◌, length, true, false, IsTrue, IfSome};
+ghost use Rattle.timeline.specs.Zone.{PlainRule, end_year};
 ghost use Rattle.civil.specs.Calendar.{year_second};
 ghost use Rattle.timeline.specs.Laws.{IsLawful};
 ghost use Rattle.timeline.specs.TableLaws.{KeepsOrder};
 ghost use Rattle.timeline.specs.declared.lookups.YearEntries.TheVariants as told;
+ghost use Rattle.timeline.specs.Inside.Reach.{first_of_32};
 ghost use Rattle.timeline.specs.Inside.YearEntries.{entries_in, IsNearestYear, StartsInside};
 ghost use Rattle.timeline.specs.Transitions.{IsUpTo, AnswersNext, AnswersPrev};
-ghost use Rattle.timeline.specs.Inside.TransitionSteps.{FirstIn, FirstFrom, LastBelow, IsTableCut, IsYearOf, year_place, is_idle, first_of_year, last_of_year};
+ghost use Rattle.timeline.specs.Inside.FoundEntries.{FirstIn, FirstFrom, LastBelow};
+ghost use Rattle.timeline.specs.Inside.EntryCuts.{IsTableCut};
+ghost use Rattle.timeline.specs.Inside.YearTransitions.{IsYearOf, year_place, is_idle, first_of_year, last_of_year};
 
 use crate::data::ZoneData;
 use crate::lookups::{YearEntries, before_entry, entries_of, nearest_year, table_place};
@@ -112,7 +115,7 @@ fn before_year<L: Ledger>(
     change: bool,
     steps: &mut Steps<L>,
 ) -> Option<Transition>
-    requires { negsuc 2147483647 <ℤ year }
+    requires { first_of_32 <ℤ year }
     ensures { (r : PlainRule) (j : ℕ) → IsLawful zone.now → IsYearOf zone.now year r j
         → LastBelow zone.now change (year_place zone.now j) result }
 {
@@ -159,7 +162,7 @@ fn next_in_rule(
     last: Transition,
     change: bool,
 ) -> Option<Transition>
-    requires { year <ℤ pos 2147483647 }
+    requires { year <ℤ end_year }
     ensures { IsLawful zone.now → IsNearestYear year second → StartsInside zone.now.rule
         → told.Rule before first last ≡ entries_in zone.now.rule year
         → AnswersNext zone.now second change result }
@@ -258,7 +261,7 @@ fn prev_in_rule<L: Ledger>(
     change: bool,
     steps: &mut Steps<L>,
 ) -> Option<Transition>
-    requires { negsuc 2147483647 <ℤ year }
+    requires { first_of_32 <ℤ year }
     ensures { IsLawful zone.now → IsNearestYear year second → StartsInside zone.now.rule
         → told.Rule before first last ≡ entries_in zone.now.rule year
         → AnswersPrev zone.now second exact change result }

@@ -1,6 +1,7 @@
 -- The region of a zone (docs/FORMATS.md, "Zone fields").
+use Rattle.std.specs.Char.{is_ascii_digit, is_ascii_uppercase}
 use Rattle.std.specs.Char.Utf16.{utf16_lossy_chars}
-use Rattle.std.specs.Prelude.{ℕ, ◌==◌, nat_le, nat_lt, Bool, ◌&&◌, ◌||◌, if◌then◌else◌, List, [], ◌∷◌, slice_index_or, Option}
+use Rattle.std.specs.Prelude.{ℕ, ◌==◌, nat_lt, Bool, ◌&&◌, ◌||◌, if◌then◌else◌, List, [], ◌∷◌, slice_index_or, Option}
 use Rattle.resb_tree.specs.Bodies.{when}
 
 -- a character of a region as a byte; one that is not ASCII counts as 0
@@ -11,18 +12,11 @@ region_byte c = if nat_lt c 128 then c else 0
 abbrev pub region_byte_at : List ℕ → ℕ → ℕ
 region_byte_at chars n = region_byte (slice_index_or chars n 0)
 
--- an ASCII capital
-abbrev pub is_capital : ℕ → Bool
-is_capital c = nat_le 65 c && nat_le c 90
-
--- an ASCII digit
-abbrev pub is_digit : ℕ → Bool
-is_digit c = nat_le 48 c && nat_le c 57
-
 -- two capitals and a zero byte, or three digits
 abbrev pub region_code : ℕ → ℕ → ℕ → Option (List ℕ)
 region_code a b c =
-    when ((is_capital a && is_capital b && (c == 0)) || (is_digit a && is_digit b && is_digit c)) (a ∷ b ∷ c ∷ [])
+    when ((is_ascii_uppercase a && is_ascii_uppercase b && (c == 0))
+    || (is_ascii_digit a && is_ascii_digit b && is_ascii_digit c)) (a ∷ b ∷ c ∷ [])
 
 -- the code of a region's first three characters
 abbrev pub region_of_chars : List ℕ → Option (List ℕ)

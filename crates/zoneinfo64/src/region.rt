@@ -1,6 +1,5 @@
 //! Codes of regions.
 ghost use Rattle.std.specs.Prelude.{◌≡◌};
-ghost use Rattle.zoneinfo64.specs.Regions.{is_capital, is_digit, region_code};
 
 use std::marker::Model;
 
@@ -19,18 +18,6 @@ impl Model for Region {
     ghost inverse = { λ n. record { 0 = n } };
 }
 
-fn is_capital(byte: u8) -> bool
-    ensures { result ≡ is_capital byte }
-{
-    byte.is_ascii_uppercase()
-}
-
-fn is_digit(byte: u8) -> bool
-    ensures { result ≡ is_digit byte }
-{
-    byte.is_ascii_digit()
-}
-
 impl Region {
     ghost use Rattle.zoneinfo64.specs.RegionView.{code_of_bytes};
 
@@ -39,8 +26,8 @@ impl Region {
         ensures { result ≡ code_of_bytes raw }
     {
         let [a, b, c] = raw;
-        let two_letters = is_capital(a) && is_capital(b) && c == 0;
-        let three_digits = is_digit(a) && is_digit(b) && is_digit(c);
+        let two_letters = a.is_ascii_uppercase() && b.is_ascii_uppercase() && c == 0;
+        let three_digits = a.is_ascii_digit() && b.is_ascii_digit() && c.is_ascii_digit();
         if two_letters || three_digits {
             Some(Region([a, b, c]))
         } else {

@@ -1,6 +1,6 @@
 //! Each front of a word that counts, in lower case, in upper case and with a capital, and in words of 16 and of 17 letters.
-use super::{Date, Time, at, fault_of, parts_of};
-use crate::{Dialect, Direction, Expected, Interval};
+use super::{Date, Time, parts_of};
+use crate::{DateError, Dialect, Direction, Expected, Interval, Span};
 use std::alloc::Global;
 use std::test::Fail;
 
@@ -45,28 +45,45 @@ const LETTERS: [([&str; 2], Interval); 6] = [
     (["y", "Y"], Interval::Months(24)),
 ];
 
-fn uk(phrase: &str) -> Option<(Date, Time)> {
-    parts_of(phrase, Dialect::Uk)
+// What is read of a front of letters behind so many bytes, with further letters.
+fn read(
+    alloc: Global,
+    before: &str,
+    front: &str,
+    more: &str,
+) -> Result<Result<(Date, Time), DateError>, Fail> {
+    let phrase = format!(in alloc; "{before}{front}{more}")?;
+    Ok(parts_of(phrase.as_str(), Dialect::Uk))
 }
 
-// A front of three letters, and a word of 16 and one of 17 letters that begin with it, behind so many bytes.
-fn phrases(alloc: Global, before: &str, front: &str) -> Result<[String; 3], Fail> {
-    Ok([
-        format!(in alloc; "{before}{front}")?,
-        format!(in alloc; "{before}{front}xxxxxxxxxxxxx")?,
-        format!(in alloc; "{before}{front}xxxxxxxxxxxxxx")?,
-    ])
+// Further letters for a word of 16, and of 17.
+const LONGEST: &str = "xxxxxxxxxxxxx";
+
+const TOO_LONG: &str = "xxxxxxxxxxxxxx";
+
+// Whether a front is read as this date alone, in words of 3 and of 16 letters, and a word of 17 is none.
+fn is_front(
+    alloc: Global,
+    before: &str,
+    front: &str,
+    date: Date,
+    fault: DateError,
+) -> Result<bool, Fail> {
+    let read = [
+        read(alloc, before, front, "")?,
+        read(alloc, before, front, LONGEST)?,
+        read(alloc, before, front, TOO_LONG)?,
+    ];
+    Ok(read == [Ok((date, None)), Ok((date, None)), Err(fault)])
 }
 
 #[test]
 fn months_and_weekdays(rt: HostRuntime) -> Result<(), Fail> {
+    let fault = DateError::ExpectedToken(Expected::Identifier, Span { start: 0, end: 17 });
     for (forms, date) in NAMES {
         for front in forms {
-            let [short, longest, too_long] = phrases(rt.alloc(), "", front)?;
-            assert_eq!(rt; uk(short.as_str()), Some((date, None)), "{short}");
-            assert_eq!(rt; uk(longest.as_str()), Some((date, None)), "{longest}");
-            let fault = fault_of(too_long.as_str(), Dialect::Uk);
-            assert_eq!(rt; fault, Some(at(Expected::Identifier, 0, 17)), "{too_long}");
+            let is_so = is_front(rt.alloc(), "", front, date, fault)?;
+            assert!(rt; is_so, "{front}");
         }
     }
     Ok(())
@@ -74,21 +91,17 @@ fn months_and_weekdays(rt: HostRuntime) -> Result<(), Fail> {
 
 #[test]
 fn units(rt: HostRuntime) -> Result<(), Fail> {
+    let fault = DateError::ExpectedToken(Expected::MonthOrUnit, Span { start: 2, end: 19 });
     for (forms, interval) in UNITS {
-        let moved = Some((Date::Moved(interval), None));
         for front in forms {
-            let [short, longest, too_long] = phrases(rt.alloc(), "2 ", front)?;
-            assert_eq!(rt; uk(short.as_str()), moved, "{short}");
-            assert_eq!(rt; uk(longest.as_str()), moved, "{longest}");
-            let fault = fault_of(too_long.as_str(), Dialect::Uk);
-            assert_eq!(rt; fault, Some(at(Expected::MonthOrUnit, 2, 19)), "{too_long}");
+            let is_so = is_front(rt.alloc(), "2 ", front, Date::Moved(interval), fault)?;
+            assert!(rt; is_so, "{front}");
         }
     }
     for (forms, interval) in LETTERS {
         for letter in forms {
-            let phrase = format!(in rt.alloc(); "2{letter}")?;
-            let moved = Some((Date::Moved(interval), None));
-            assert_eq!(rt; uk(phrase.as_str()), moved, "{phrase}");
+            let parts = read(rt.alloc(), "2", letter, "")?;
+            assert_eq!(rt; parts, Ok((Date::Moved(interval), None)), "{letter}");
         }
     }
     Ok(())

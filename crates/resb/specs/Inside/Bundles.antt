@@ -1,4 +1,4 @@
--- The words of a file, of its parts.
+-- The words of a file, of its parts (docs/FORMATS.md, "The writer").
 use Rattle.std.specs.Prelude.{ℕ, ◌+◌, List, [], ◌∷◌, ◌++◌, length}
 use Rattle.resb.specs.Packing.{pack_bytes}
 use Rattle.resb.specs.TreeKeys.{pool_bytes}

@@ -1,4 +1,4 @@
--- Where the pool that is written has its keys.
+-- Where the pool that is written has its keys (docs/FORMATS.md, "The writer").
 use Rattle.std.specs.Prelude.{ℕ, List}
 use Rattle.resb.specs.Pool.{bare, place_of}
 use Rattle.resb.specs.declared.pool.KeyPool.{KeyPool}

@@ -1,4 +1,4 @@
--- Trees whose words stand behind others.
+-- Trees whose words stand behind others (docs/FORMATS.md, "The writer").
 use Rattle.std.specs.Prelude.{◌≡◌, ℕ, ◌+◌, List, ◌++◌, length, map, Result, MatchResult}
 use Rattle.resb_tree.specs.declared.error.ResbError.{ResbError}
 use Rattle.resb_tree.specs.declared.resource.Resource.{Resource}

@@ -1,15 +1,16 @@
--- The pool into which the keys of a tree are put.
+-- The pool into which the keys of a tree are put (docs/FORMATS.md, "The writer").
 use Rattle.std.specs.Prelude.{◌≡◌, ℕ, List, [], ◌∷◌, ◌++◌, Option, Some, None, Result, Ok, Err, if◌then◌else◌, nat_lt}
 use Rattle.resb_tree.specs.Keys.{stands_in}
 use Rattle.resb_tree.specs.Bodies.{◌>>=◌}
 use Rattle.resb_tree.specs.declared.error.ResbError.{ResbError}
 use Rattle.resb_tree.specs.declared.error.ResbError.TheVariants.{Memory, NoTree, TooLarge, BadKey}
+use Rattle.resb.specs.Packing.{most_unit}
 use Rattle.resb.specs.Pool.{place_of, pool_end}
 
 -- the pool with a key more, where the key's place fits
 abbrev pub added : List (List ℕ) → List ℕ → Option (List (List ℕ))
 added keys key =
-    if stands_in key keys then Some keys else (if nat_lt 65535 (pool_end keys) then None else Some (keys ++ key ∷ []))
+    if stands_in key keys then Some keys else (if nat_lt most_unit (pool_end keys) then None else Some (keys ++ key ∷ []))
 
 -- the pool with more keys, in their order
 unfoldable pub pooled : List (List ℕ) → List (List ℕ) → Option (List (List ℕ))

@@ -1,5 +1,6 @@
--- Trees that are told to a draft.
-use Rattle.std.specs.Prelude.{◌≡◌, ℕ, ◌<◌, true, false, List, [], ◌∷◌, ◌++◌, length, map, Result, MatchResult}
+-- Trees that are told to a draft (docs/FORMATS.md, "The writer").
+use Rattle.std.specs.Prelude.{◌≡◌, ℕ, ◌<◌, true, false, List, [], ◌∷◌, ◌++◌, length, Result, MatchResult}
+use Rattle.std.specs.List.{list_any}
 use Rattle.resb_tree.specs.Keys.{distinct, keys_in}
 use Rattle.resb_tree.specs.declared.error.ResbError.{ResbError}
 use Rattle.resb_tree.specs.declared.resource.Resource.{Resource}
@@ -8,7 +9,7 @@ use Rattle.resb.specs.DraftRows.{Holds, HasRoom}
 use Rattle.resb.specs.DraftParents.{Lacks}
 use Rattle.resb.specs.Plan.{Refuses}
 use Rattle.resb.specs.Entries.{values_in}
-use Rattle.resb.specs.BadKeys.{all_keys, any_bad, has_bad_key}
+use Rattle.resb.specs.BadKeys.{all_keys, has_bad_key}
 use Rattle.resb.specs.declared.draft.Draft.{Draft}
 
 -- an array of these items
@@ -23,8 +24,8 @@ table_of entries = r.Table entries
 abbrev pub Tells : {X : Type 0} → Draft → Draft → List Resource → Result X ResbError → Type 0
 Tells old new trees result =
     MatchResult result
-    (λ _. (keys : List (List ℕ)) (row : List Resource) → any_bad (map has_bad_key trees) ≡ false → Holds old keys row → Holds new keys (row ++ trees))
-    (λ e. (keys : List (List ℕ)) (row : List Resource) → any_bad (map has_bad_key trees) ≡ false → Holds old keys row → Refuses (HasRoom keys (row ++ trees)) e)
+    (λ _. (keys : List (List ℕ)) (row : List Resource) → list_any has_bad_key trees ≡ false → Holds old keys row → Holds new keys (row ++ trees))
+    (λ e. (keys : List (List ℕ)) (row : List Resource) → list_any has_bad_key trees ≡ false → Holds old keys row → Refuses (HasRoom keys (row ++ trees)) e)
 
 -- why there is no table under good names
 pub record NoTable (old : Draft) (names : List (List ℕ)) (e : ResbError) : Type 0 where

@@ -1,4 +1,4 @@
--- The bytes that a number holds, the first of them lowest.
+-- The bytes that a number holds, the first of them lowest (docs/FORMATS.md, "The 16-bit area").
 use Rattle.std.specs.Prelude.{◌≡◌, ℕ, zero, suc, ◌+◌, ◌/◌, ◌%◌, List, ⊤}
 use Rattle.resb_tree.specs.Words.{byte_in}
 

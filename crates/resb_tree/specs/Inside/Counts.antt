@@ -1,4 +1,4 @@
--- How many items and entries stand behind a place, where they lie where they may.
+-- How many items and entries stand behind a place, where they lie where they may (docs/FORMATS.md, "Items").
 use Rattle.std.specs.Prelude.{ℕ, ◌+◌, ◌*◌, ◌/◌, Bool, false, ◌&&◌, slice_index, Option, Some, None, if◌then◌else◌, ◌==◌, nat_le, nat_lt}
 use Rattle.resb_tree.specs.Words.{unit_in}
 use Rattle.resb_tree.specs.Bodies.{Body, counted, area_counted}

@@ -1,4 +1,4 @@
--- The keys at places of a body, where there are some.
+-- The keys at places of a body, where there are some (docs/FORMATS.md, "Keys").
 use Rattle.std.specs.Prelude.{◌≡◌, ℕ, ◌<◌, List, [], length, map, Option, Some, None}
 use Rattle.resb_tree.specs.Bodies.{◌>>=◌, Body}
 use Rattle.resb_tree.specs.Tables.{key_at}

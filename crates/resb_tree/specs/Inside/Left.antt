@@ -1,4 +1,4 @@
--- What a walk that only checks leaves of the limit behind each part.
+-- What a walk that only checks leaves of the limit behind each part (docs/FORMATS.md, "Weight").
 use Rattle.std.specs.Prelude.{ℕ, ◌+◌, List, [], ◌∷◌, Option, Some, None, nat_le, ◌-◌, cond, if◌then◌else◌, ◌==◌}
 use Rattle.resb_tree.specs.Keys.{distinct}
 use Rattle.resb_tree.specs.Words.{run}

@@ -1,4 +1,4 @@
--- How many values, items and entries stand behind a place that has some.
+-- How many values, items and entries stand behind a place that has some (docs/FORMATS.md, "Items").
 use Rattle.std.specs.Prelude.{ℕ, ◌*◌, slice_index, Option, Some, None, if◌then◌else◌, ◌==◌}
 use Rattle.resb_tree.specs.Words.{unit_in}
 use Rattle.resb_tree.specs.Bodies.{Body, area_len, area_unit}

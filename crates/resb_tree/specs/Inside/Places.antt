@@ -1,4 +1,4 @@
--- The trees, items and entries at places of a body, where there are some.
+-- The trees, items and entries at places of a body, where there are some (docs/FORMATS.md, "Items").
 use Rattle.std.specs.Prelude.{◌≡◌, ℕ, ◌+◌, ◌<◌, ◌≤◌, List, [], slice_index, Option, Some, None}
 use Rattle.resb_tree.specs.Words.{run}
 use Rattle.resb_tree.specs.Bodies.{Body}

@@ -1,4 +1,4 @@
--- The slots of the keys and tables that a walk has met.
+-- The slots of the keys and tables that a walk has met (docs/FORMATS.md, "Keys").
 use Rattle.std.specs.Prelude.{◌≡◌, List, length, All, Option, Some, None, true}
 use Rattle.resb_tree.specs.Keys.{distinct}
 use Rattle.resb_tree.specs.Words.{run}

@@ -1,4 +1,4 @@
--- Where keys and the texts of the 16-bit area stand.
+-- Where keys and the texts of the 16-bit area stand (docs/FORMATS.md, "Keys", "Texts of the area").
 use Rattle.std.specs.Prelude.{ℕ, zero, suc, ◌-◌, ◌+◌, ◌%◌, ◌||◌, ◌*◌, if◌then◌else◌, ◌==◌, Option, Some, None, nat_le, nat_lt}
 use Rattle.resb_tree.specs.Bodies.{◌>>=◌, Body, area_len, area_unit}
 

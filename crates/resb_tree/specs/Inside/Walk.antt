@@ -1,5 +1,6 @@
--- What a walk that only checks leaves of the limit behind an item.
+-- What a walk that only checks leaves of the limit behind an item (docs/FORMATS.md, "Weight").
 use Rattle.std.specs.Prelude.{ℕ, zero, suc, ◌/◌, ◌%◌, Option, None, if◌then◌else◌, ◌==◌}
+use Rattle.resb_tree.specs.Words.{value_count}
 use Rattle.resb_tree.specs.Bodies.{Body}
 use Rattle.resb_tree.specs.Inside.Left.{spent, counted_left, short_text_left, array_left, table_left}
 use Rattle.resb_tree.specs.declared.forms.ArrayForm.TheVariants as array
@@ -26,4 +27,4 @@ typed_left one b t v limit =
 -- behind an item, with so many levels left, its own among them
 unfoldable pub left_behind : Body → ℕ → ℕ → ℕ → Option ℕ
 left_behind b zero item limit = None
-left_behind b (suc levels) item limit = typed_left (left_behind b levels) b (item / 268435456) (item % 268435456) limit
+left_behind b (suc levels) item limit = typed_left (left_behind b levels) b (item / value_count) (item % value_count) limit

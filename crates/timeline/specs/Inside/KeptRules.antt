@@ -1,9 +1,7 @@
--- What is kept of a yearly rule to tell its years by their kinds. Serves private contracts alone.
-use Rattle.std.specs.Prelude.{◌≡◌, ℕ, ◌<◌, ◌==◌, Bool, false, not, if◌then◌else◌, List, map, slice_index_or, ℤ, pos, ◌+ℤ◌, ◌-ℤ◌, ◌*ℤ◌, ◌≤ℤ◌}
-use Rattle.std.specs.Ordering.{int_eq}
+-- What is kept of a yearly rule to tell its years by their kinds (docs/ZONES.md, "Kinds of year"). Serves private contracts
+-- alone.
+use Rattle.std.specs.Prelude.{◌≡◌, ℕ, ◌<◌, ◌==◌, Bool, if◌then◌else◌, List, map, slice_index_or, ℤ, pos, ◌≤ℤ◌}
 use Rattle.std.specs.List.{range_with_len}
-use Rattle.civil.specs.Calendar.{year_start, year_kind}
-use Rattle.timeline.specs.declared.offset.Transition.{Transition}
 use Rattle.timeline.specs.declared.rule.TimeMode.{TimeMode}
 use Rattle.timeline.specs.declared.rule.TimeMode.TheVariants.{Wall, Standard, Utc}
 use Rattle.timeline.specs.declared.rule.KindDate.{KindDate}
@@ -14,6 +12,10 @@ use Rattle.timeline.specs.Kinds.{place_in_kind}
 -- the places in years of the 14 kinds
 unfoldable pub places_of : DateRule → List ℤ
 places_of r = map (place_in_kind r) (range_with_len 0 14)
+
+-- the places in years of all kinds lie from one place to another
+abbrev pub LieWithin : List ℤ → ℤ → ℤ → Type 0
+LieWithin places from to = (k : ℕ) → k < 14 → (from ≤ℤ slice_index_or places k (pos 0)) × (slice_index_or places k (pos 0) ≤ℤ to)
 
 -- what the seconds of the day are counted by
 abbrev pub time_mode : ℕ → TimeMode
@@ -43,36 +45,6 @@ kept_rule r = record {
   first_year = r.first_year;
 }
 
--- ---- a year by what is kept
-
--- what is taken off a wall time to tell the second: the offset before it, the standard offset, or nothing
-abbrev pub taken_off : TimeMode → ℤ → ℤ → ℤ
-taken_off Wall before raw = before
-taken_off Standard before raw = raw
-taken_off Utc before raw = pos 0
-
--- the second of a date in a year that begins on this day and is of this kind
-abbrev pub kind_second : KindDate → ℤ → ℤ → ℤ → ℕ → ℤ
-kind_second d before raw start k =
-    pos 86400 *ℤ (start +ℤ slice_index_or d.places k (pos 0)) +ℤ pos d.seconds -ℤ taken_off d.mode before raw
-
--- the year begins on this day and is of this kind
-pub record IsYearOf (y day : ℤ) (k : ℕ) : Type 0 where
-  pub first_day : day ≡ year_start y
-  pub kind : k ≡ year_kind y
-
--- the two transitions of the year
-abbrev pub kept_start : KeptRule → ℤ → ℕ → Transition
-kept_start r start k = record {
-  since = kind_second r.start r.raw r.raw start k;
-  offset = r.raw +ℤ r.extra;
-  rule_applies = not (int_eq r.extra (pos 0));
-}
-
--- the end's transition in a year that begins on this day and is of this kind
-abbrev pub kept_end : KeptRule → ℤ → ℕ → Transition
-kept_end r start k = record { since = kind_second r.end (r.raw +ℤ r.extra) r.raw start k; offset = r.raw; rule_applies = false }
-
--- the places in years of all kinds lie from one place to another
-abbrev pub LieWithin : List ℤ → ℤ → ℤ → Type 0
-LieWithin places from to = (k : ℕ) → k < 14 → (from ≤ℤ slice_index_or places k (pos 0)) × (slice_index_or places k (pos 0) ≤ℤ to)
+-- P is true of each rule of which this is kept
+abbrev pub OfItsRule : KeptRule → (PlainRule → Type 0) → Type 0
+OfItsRule k P = (r : PlainRule) → k ≡ kept_rule r → P r

@@ -1,14 +1,14 @@
 //! Entries that lie days apart, as nearly all do: their seconds alone show that they keep the laws.
-ghost use Rattle.std.specs.Prelude.{◌≡◌, ◌+◌, ◌<◌, ◌≤◌, ◌↔◌, IsTrue, IfSome, nat_lt, nat_le, length, ℤ, pos, negsuc, ◌+ℤ◌, ◌<ℤ◌, ◌≤ℤ◌};
-ghost use Rattle.timeline.specs.Inside.CheckSteps.{InPart};
-ghost use Rattle.timeline.specs.Inside.Apart.{IsApart, AreSmall};
+ghost use Rattle.std.specs.Prelude.{◌≡◌, ◌+◌, ◌<◌, ◌≤◌, ◌↔◌, IsTrue, nat_lt, nat_le, length, pos, ◌+ℤ◌, ◌<ℤ◌, ◌≤ℤ◌};
+ghost use Rattle.timeline.specs.Inside.EntryLaws.{InPart};
+ghost use Rattle.timeline.specs.Inside.Apart.{IsApart, IsEnd, last_end};
 
 use super::{is_in_part, is_late};
 use crate::data::ZoneData;
 
 /// Two days before a second; of one of the first two days of all, a second of the last two days.
 fn two_days_before(second: i64) -> i64
-    ensures { result <ℤ pos 9223372036854603008 → second ≡ result +ℤ pos 172800 }
+    ensures { result <ℤ last_end → second ≡ result +ℤ pos 172800 }
 {
     second.wrapping_sub(172_800)
 }
@@ -16,9 +16,7 @@ fn two_days_before(second: i64) -> i64
 /// An entry whose second less two days is below this one lies two days or more before the second that the table is to end
 /// before, if there is one. Where an offset is a day or more, none is below it.
 pub fn shown_end(zone: &ZoneData, limit: Option<i64>) -> i64
-    ensures wraps { result ≤ℤ pos 9223372036854603008 }
-    ensures shown { (s : ℤ) → IsApart (negsuc 9223372036854775807) s → s <ℤ (result +ℤ pos 172800)
-        → AreSmall zone.now × IfSome limit (λ l. IsApart s l) }
+    ensures { IsEnd zone.now limit result }
 {
     if !zone.has_small_offsets() {
         return i64::MIN;
@@ -37,7 +35,7 @@ fn lies_between(low: i64, second: i64, end: i64) -> bool
 
 /// Whether a second lies two days or more after another one, and less two days before an end.
 pub fn lie_days_apart(previous: i64, second: i64, end: i64) -> bool
-    requires { end ≤ℤ pos 9223372036854603008 }
+    requires { end ≤ℤ last_end }
     ensures { IsTrue result → IsApart previous second × (second <ℤ (end +ℤ pos 172800)) }
 {
     lies_between(previous, two_days_before(second), end)
@@ -61,7 +59,7 @@ fn lies_in_part(zone: &ZoneData, n: usize, second: i64) -> bool
 /// after the one before it, and before an end. One that does not may keep the laws too.
 pub fn shows_laws(zone: &ZoneData, n: usize, previous: i64, second: i64, end: i64) -> bool
     requires within { n < length zone.now.table }
-    requires wraps { end ≤ℤ pos 9223372036854603008 }
+    requires wraps { end ≤ℤ last_end }
     ensures { IsTrue result
         → InPart (nat_lt n zone.now.early)
         (nat_le (length zone.now.table) (n + zone.now.late)) second

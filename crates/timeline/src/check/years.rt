@@ -1,15 +1,15 @@
 //! The first second of a year, and a year of each kind from 2000 to 2024.
-ghost use Rattle.std.specs.Prelude.{◌≡◌, ◌<◌, pos, negsuc, ◌≤ℤ◌};
+ghost use Rattle.std.specs.Prelude.{◌≡◌, ◌<◌, pos, ◌≤ℤ◌};
 ghost use Rattle.civil.specs.Calendar.{year_second, example_year};
-ghost use Rattle.timeline.specs.Inside.CheckSteps.{kind_seconds};
+ghost use Rattle.timeline.specs.Inside.RuleChecks.{kind_seconds};
+ghost use Rattle.timeline.specs.Inside.Reach.{IsSecondInReach};
 
 use civil::days_before_year;
 
 /// The first second of a year.
 pub fn first_second(year: i32) -> i64
     ensures value { result ≡ year_second year }
-    ensures low { negsuc 69119999999999999 ≤ℤ result }
-    ensures high { result ≤ℤ pos 69120000000000000 }
+    ensures reach { IsSecondInReach result }
 {
     86_400 * days_before_year(year)
 }

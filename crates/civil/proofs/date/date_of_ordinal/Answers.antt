@@ -18,16 +18,16 @@ number : (c : After-from_day) → to_z w64 (of_z w64 (to_z w64 (of_z w64 c.days_
 number c =
     let year : to_z w32 (of_z w32 c.args.year) ≡ c.args.year = to_z-of_z c.ranges.year in
     let o = is_ordinal c in
-    let inside = ordinal_inside c.args.year c.args.ordinal c.requires.first c.requires.last o in
+    let inside = ordinal_inside c.args.year c.args.ordinal c.requires o in
     let at = ordinal_day-is c.args.year c.args.ordinal in
-    omega (arith, signed_casts, c.days_before_year.ensures.value, c.days_before_year.ensures.low, c.days_before_year.ensures.high, ap year_start year, at, inside.first, inside.last)
+    omega (arith, signed_casts, c.days_before_year.ensures.value, c.days_before_year.ensures.bound, ap year_start year, at, inside.first, inside.last)
 
 pub returns-clause-some : goal.returns-clause-some
 returns-clause-some c =
     let o = is_ordinal c in
     let P : ℤ → Type 0 = λ day. IsSome c.from_day.result ↔ IsDay day in
     let some = subst P (number c) c.from_day.ensures.some in
-    (λ _. o, λ _. some.1 (ordinal_inside c.args.year c.args.ordinal c.requires.first c.requires.last o))
+    (λ _. o, λ _. some.1 (ordinal_inside c.args.year c.args.ordinal c.requires o))
 
 pub returns-clause-value : goal.returns-clause-value
 returns-clause-value c =

@@ -1,5 +1,6 @@
-use Rattle.std.proofs.Common.{pos, negsuc, ◌≤ℤ◌, ◌+◌, to_z, of_z, w32, arith}
+use Rattle.std.proofs.Common.{◌+◌, to_z, of_z, w32, arith}
 use Rattle.civil.specs.CivilDates.{HoldsDay}
+use Rattle.civil.specs.Inside.Years.{IsYear}
 use Rattle.jiff_core.proofs.SignedLemmas.{signed_arith}
 use Rattle.civil.proofs.DateOfDay.{year_in_calendar}
 use Rattle.civil.proofs.Setters.{ordinal_day-is}
@@ -7,7 +8,7 @@ use Rattle.civil.proofs.date.year_and_ordinal.Goals as goal
 use Rattle.civil.proofs.date.year_and_ordinal.Goals.{After-ordinal_in}
 
 -- the year that was found is one of the calendar
-years : (c : After-ordinal_in) → (negsuc 262142 ≤ℤ c.year_in-year.result) × (c.year_in-year.result ≤ℤ pos 262142)
+years : (c : After-ordinal_in) → IsYear c.year_in-year.result
 years c =
     let holds : HoldsDay c.year_in-year.result c.args.day = record {
       begun = omega (arith, signed_arith, c.year_in-year.ensures.begun);
@@ -24,8 +25,7 @@ returns-clause-place c =
       is = omega (arith, signed_arith, o.value, at);
     }
 
-pub returns-clause-first : goal.returns-clause-first
-returns-clause-first c = let y = years c in omega (arith, signed_arith, y.0, y.1)
-
-pub returns-clause-last : goal.returns-clause-last
-returns-clause-last c = let y = years c in omega (arith, signed_arith, y.0, y.1)
+pub returns-clause-year : goal.returns-clause-year
+returns-clause-year c =
+    let y = years c in
+    record { first = omega (arith, signed_arith, y.first, y.last); last = omega (arith, signed_arith, y.first, y.last) }

@@ -1,7 +1,7 @@
 use Rattle.std.proofs.Common.{◌≡◌, ℕ, pos, ◌-ℤ◌, neg_ℤ, to_z, of_z, ◌-◌, List, length, take, drop, get_or, codes, true, w32, arith}
 use Rattle.std.proofs.lemmas.List.{take_rest}
 use Rattle.std.proofs.lemmas.Slice.Eq.{text_from_reads}
-use Rattle.interim.specs.Characters.{is_digit}
+use Rattle.std.specs.Char.{is_ascii_digit}
 use Rattle.interim.specs.Words.{month_of}
 use Rattle.interim.proofs.PlainBytes.{digit_is}
 use Rattle.interim.proofs.PlainShapes.{back_count, back_is, no_month}
@@ -16,7 +16,7 @@ returns c =
     let words : List ℕ = take (length rest - 1) (drop 1 rest) in
     let len : ℕ = c.letters-len.result in
     let last : List ℕ = take (length words - len) (drop len words) in
-    let digit : is_digit (get_or phrase 0 0) ≡ true = digit_is (get_or phrase 0 0) (omega arith) (omega arith) in
+    let digit : is_ascii_digit (get_or phrase 0 0) ≡ true = digit_is (get_or phrase 0 0) (omega arith) (omega arith) in
     let ago : last ≡ codes " ago" = text_from_reads last (codes " ago") (omega arith) (omega arith, (omega arith, (omega arith, (omega arith, tt)))) in
     let count : to_z w32 (of_z w32 (pos 0 -ℤ to_z w32 (of_z w32 c.from.result))) ≡ neg_ℤ (pos c.number-n.result.0) = back_count c.number-n.result.0 c.from.result c.from.ensures (omega arith) in
     rw (c.times.ensures, count)

@@ -1,5 +1,6 @@
 use Rattle.std.proofs.Common.{◌≡◌, ◌≤◌, ◌++◌, drop}
 use Rattle.std.specs.Prelude.{map}
+use Rattle.resb.specs.Packing.{most_unit}
 use Rattle.resb.specs.Pool.{bare}
 use Rattle.resb.specs.Inside.KeyPlaces.{places_in}
 use Rattle.resb.specs.WrittenFiles.{most_of}
@@ -11,6 +12,6 @@ invariant-loop-key l =
     let behind = bare (drop l.key-index l.keys) in
     record {
       units : l.units.items ++ map places behind ≡ l.fn.units.items ++ map places (bare l.keys);
-      near : most_of (map places (bare l.keys)) ≤ 65535 → most_of (map places behind) ≤ 65535;
-      all : most_of (map places behind) ≤ 65535 → most_of (map places (bare l.keys)) ≤ 65535;
+      near : most_of (map places (bare l.keys)) ≤ most_unit → most_of (map places behind) ≤ most_unit;
+      all : most_of (map places behind) ≤ most_unit → most_of (map places (bare l.keys)) ≤ most_unit;
     }

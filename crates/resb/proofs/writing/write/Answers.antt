@@ -1,9 +1,10 @@
+use Rattle.std.specs.List.{list_any}
 use Rattle.std.proofs.Common.{◌≡◌, ◌∙◌, refl, sym, false, ℕ, List, [], ◌∷◌, Vec, Global}
 use Rattle.resb.specs.declared.pool.KeyPool.{KeyPool}
 use Rattle.resb.specs.DraftRows.{Holds}
 use Rattle.resb.specs.Pool.{bare}
 use Rattle.resb.specs.TreeKeys.{key_pool, keys_met}
-use Rattle.resb.specs.BadKeys.{any_bad, has_bad_key}
+use Rattle.resb.specs.BadKeys.{has_bad_key}
 use Rattle.resb.proofs.Pools.{pool_first}
 use Rattle.resb.proofs.RowParts.{row_kept}
 use Rattle.resb.proofs.WrittenWords.{pool_told, pool_good, over_end, kept_room, error_on, refusal_told, answer_told}
@@ -33,7 +34,7 @@ pub returns-in_err-tell-clause-words : goal.returns-in_err-tell-clause-words
 returns-in_err-tell-clause-words c =
     let t = c.args.tree.now in
     let good : has_bad_key t ≡ false = sym c.in_ok-has_bad_key.ensures ∙ c.if-branch.false in
-    let none : any_bad (has_bad_key t ∷ []) ≡ false = rw good refl in
+    let none : list_any has_bad_key (t ∷ []) ≡ false = rw good refl in
     let begun : Holds c.in_ok-draft.draft (key_pool t) [] = rw (pool_first (keys_met t) _ c.in_ok-pool.ensures).0 at c.in_ok-draft.ensures.holds in
     error_on view c.from_residual-in_err-tell.result _ _ c.from_residual-in_err-tell.ensures.1 (refusal_told t _ view _ good (kept_room t) (c.in_err-tell.ensures (key_pool t) [] none begun))
 
@@ -41,7 +42,7 @@ pub returns-clause-words : goal.returns-clause-words
 returns-clause-words c =
     let t = c.args.tree.now in
     let good : has_bad_key t ≡ false = sym c.in_ok-has_bad_key.ensures ∙ c.if-branch.false in
-    let none : any_bad (has_bad_key t ∷ []) ≡ false = rw good refl in
+    let none : list_any has_bad_key (t ∷ []) ≡ false = rw good refl in
     let begun : Holds c.in_ok-draft.draft (key_pool t) [] = rw (pool_first (keys_met t) _ c.in_ok-pool.ensures).0 at c.in_ok-draft.ensures.holds in
     let held : Holds c.tell.new.draft (key_pool t) (t ∷ []) = c.in_ok-tell.ensures (key_pool t) [] none begun in
     answer_told view t c.write.result good (row_kept t _ _ _ _ _ _ held.1) (c.write.ensures.words t held) (c.write.ensures.bound t held) (c.write.ensures.err (key_pool t) (t ∷ []) held)
@@ -50,6 +51,6 @@ pub returns-clause-denoted : goal.returns-clause-denoted
 returns-clause-denoted c =
     let t = c.args.tree.now in
     let good : has_bad_key t ≡ false = sym c.in_ok-has_bad_key.ensures ∙ c.if-branch.false in
-    let none : any_bad (has_bad_key t ∷ []) ≡ false = rw good refl in
+    let none : list_any has_bad_key (t ∷ []) ≡ false = rw good refl in
     let begun : Holds c.in_ok-draft.draft (key_pool t) [] = rw (pool_first (keys_met t) _ c.in_ok-pool.ensures).0 at c.in_ok-draft.ensures.holds in
     c.write.ensures.denoted t (c.in_ok-tell.ensures (key_pool t) [] none begun)

@@ -1,7 +1,7 @@
 use Rattle.std.proofs.Common.{ℕ, ◌<◌, ◌+◌, sym, subst}
 use Rattle.timeline.specs.declared.fault.ZoneFault.{ZoneFault}
 use Rattle.timeline.specs.Inside.LeastFaults.{TellsLeast}
-use Rattle.timeline.specs.Inside.CheckSteps.{KeepsAt}
+use Rattle.timeline.specs.Inside.TableChecks.{KeepsAt}
 use Rattle.timeline.proofs.LeastFaults.{Told, tells_more}
 use Rattle.timeline.proofs.check.add_fault.Goals as goal
 

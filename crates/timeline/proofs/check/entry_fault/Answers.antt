@@ -1,5 +1,5 @@
 use Rattle.std.proofs.Common.{rules}
-use Rattle.timeline.specs.Inside.CheckSteps.{EntryKeeps}
+use Rattle.timeline.specs.Inside.EntryLaws.{EntryKeeps}
 use Rattle.timeline.proofs.LeastFaults.{size_broken, near_broken, walls_broken, seam_broken, all_kept}
 use Rattle.timeline.proofs.check.entry_fault.Goals as goal
 

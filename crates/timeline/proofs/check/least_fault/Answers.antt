@@ -6,7 +6,8 @@ use Rattle.timeline.specs.declared.fault.ZoneFault.{ZoneFault}
 use Rattle.timeline.specs.Zone.{PlainRule}
 use Rattle.timeline.specs.Inside.KeptRules.{KeptRule}
 use Rattle.timeline.specs.Inside.LeastFaults.{TellsLeast}
-use Rattle.timeline.specs.Inside.CheckSteps.{TableKeeps, SizeKept, RuleKeeps, YearsKeep, table_before}
+use Rattle.timeline.specs.Inside.TableChecks.{TableKeeps, table_before}
+use Rattle.timeline.specs.Inside.RuleChecks.{SizeKept, RuleKeeps, YearsKeep}
 use Rattle.timeline.proofs.LeastFaults.{Told, tells-both}
 use Rattle.timeline.proofs.KeptRules.{kept-year}
 use Rattle.timeline.proofs.CheckWhole.{T, NoRule, WithRule, none_told, some_told}

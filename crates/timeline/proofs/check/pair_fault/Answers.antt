@@ -1,5 +1,5 @@
 use Rattle.std.proofs.Common.{rules}
-use Rattle.timeline.specs.Inside.CheckSteps.{PairKeeps}
+use Rattle.timeline.specs.Inside.RuleChecks.{PairKeeps}
 use Rattle.timeline.proofs.LeastFaults.{year_broken, all_kept}
 use Rattle.timeline.proofs.check.pair_fault.Goals as goal
 

@@ -1,6 +1,6 @@
 use Rattle.std.proofs.Common.{◌≡◌, ℕ, ◌+◌, ◌-◌, ◌<◌}
 use Rattle.timeline.specs.Inside.LeastFaults.{TellsLeast}
-use Rattle.timeline.specs.Inside.CheckSteps.{KeepsAt, IsSecondBefore}
+use Rattle.timeline.specs.Inside.TableChecks.{KeepsAt, IsSecondBefore}
 use Rattle.timeline.proofs.check.pass_middle.Given as goal
 
 abbrev pub invariant-loop-n : goal.invariant-loop-n

@@ -2,7 +2,7 @@ use Rattle.std.proofs.Common.{◌≡◌, ℕ, ℤ, ◌<◌, ◌+◌, pos, negsuc
 use Rattle.jiff_core.proofs.SignedLemmas.{signed_arith}
 use Rattle.timeline.specs.declared.fault.ZoneFault.{ZoneFault}
 use Rattle.timeline.specs.Inside.LeastFaults.{TellsLeast}
-use Rattle.timeline.specs.Inside.CheckSteps.{IsSecondAt, KeepsAt}
+use Rattle.timeline.specs.Inside.TableChecks.{IsSecondAt, KeepsAt}
 use Rattle.timeline.specs.Inside.Apart.{IsApart}
 use Rattle.timeline.proofs.LeastFaults.{Told, tells_kept}
 use Rattle.timeline.proofs.CheckLaws.{second_passed}

@@ -1,6 +1,6 @@
 use Rattle.std.proofs.Common.{◌≡◌, ◌+ℤ◌, true, false, IsTrue, to_z-of_z, FitsSigned, w32, sym, ap, ◌∙◌, rules}
 use Rattle.timeline.specs.Inside.KeptRules.{KeptRule, kept_rule}
-use Rattle.timeline.specs.Inside.CheckSteps.{RuleKeeps}
+use Rattle.timeline.specs.Inside.RuleChecks.{RuleKeeps}
 use Rattle.timeline.proofs.KeptRules.{kept-raw, kept-extra}
 use Rattle.timeline.proofs.LeastFaults.{size_broken, before_broken, all_kept}
 use Rattle.timeline.proofs.CheckLaws.{small_moved}
@@ -25,7 +25,7 @@ returns-then-not-same_offset-clause-value g c = λ r is.
     let sum_fits : FitsSigned w32 c.offsets-raw.result.1 = search rules in
     let small = c.are_small.ensures.0 c.if-not-are_small.false in
     before_broken (RuleKeeps r c.args.last) tt tt (small_moved _ _ (to_z-of_z raw_fits ∙ raw) small.0, small_moved _ _ (to_z-of_z sum_fits ∙ sum) small.1) tt tt tt (λ e.
-    let yes : IsTrue c.same_offset.result = c.same_offset.ensures.1 (e ∙ same_second r _ _ ∙ sym (c.year_at-before.ensures.before r is)) in
+    let yes : IsTrue c.same_offset.result = c.same_offset.ensures.1 (e ∙ same_second r _ _ ∙ sym ((c.year_at-before.ensures.year r is).before)) in
     let apart : true ≡ false = sym yes ∙ c.if-not-same_offset.true in
     cc)
 
@@ -37,4 +37,4 @@ returns-clause-value g c = λ r is.
     let sum_fits : FitsSigned w32 c.offsets-raw.result.1 = search rules in
     let small = c.are_small.ensures.0 c.if-not-are_small.false in
     all_kept (RuleKeeps r c.args.last) tt tt (small_moved _ _ (to_z-of_z raw_fits ∙ raw) small.0, small_moved _ _ (to_z-of_z sum_fits ∙ sum) small.1) tt tt tt
-    (c.same_offset.ensures.0 c.if-not-same_offset.false ∙ c.year_at-before.ensures.before r is ∙ same_second r _ _) tt
+    (c.same_offset.ensures.0 c.if-not-same_offset.false ∙ (c.year_at-before.ensures.year r is).before ∙ same_second r _ _) tt

@@ -1,6 +1,6 @@
 use Rattle.std.proofs.Common.{ℤ, to_z, of_z, to_z-of_z, FitsSigned, w32, w64, rules, ap, ◌∙◌}
 use Rattle.timeline.specs.Neighbours.{Step}
-use Rattle.timeline.specs.Inside.CheckSteps.{walls}
+use Rattle.timeline.specs.Inside.EntryWalls.{walls}
 use Rattle.timeline.proofs.check.step_walls.Goals as goal
 
 pub returns : goal.returns

@@ -4,7 +4,7 @@ use Rattle.jiff_core.proofs.SignedLemmas.{signed_arith}
 use Rattle.timeline.specs.declared.fault.ZoneFault.{ZoneFault}
 use Rattle.timeline.specs.Inside.KeptRules.{KeptRule}
 use Rattle.timeline.specs.Inside.LeastFaults.{TellsLeast}
-use Rattle.timeline.specs.Inside.CheckSteps.{YearKeeps}
+use Rattle.timeline.specs.Inside.RuleChecks.{YearKeeps}
 use Rattle.timeline.proofs.KeptRules.{kept-raw, kept-sum, kept-year}
 use Rattle.timeline.proofs.LeastFaults.{Told, tells_more}
 use Rattle.timeline.proofs.CheckLaws.{small_moved}
@@ -30,7 +30,7 @@ returns-then-places_lie_apart-clause-value g c = λ r is f y from to.
     let small = c.are_small.ensures.0 c.if-are_small.true in
     let raw_fits : FitsSigned w32 c.offsets-raw.result.0 = search rules in
     let sum_fits : FitsSigned w32 c.offsets-raw.result.1 = search rules in
-    year_shown r y (c.places_lie_apart.ensures c.if-places_lie_apart.true r y is)
+    year_shown r y (c.places_lie_apart.ensures c.if-places_lie_apart.true r is y)
     (small_moved _ _ (to_z-of_z raw_fits ∙ c.offsets-raw.ensures.raw ∙ raw) small.0, small_moved _ _ (to_z-of_z sum_fits ∙ c.offsets-raw.ensures.sum ∙ sum) small.1) f
 
 pub returns-clause-value : goal.returns-clause-value

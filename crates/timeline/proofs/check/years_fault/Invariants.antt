@@ -3,7 +3,7 @@ use Rattle.civil.specs.Calendar.{example_year}
 use Rattle.timeline.specs.Zone.{PlainRule}
 use Rattle.timeline.specs.Inside.KeptRules.{kept_rule}
 use Rattle.timeline.specs.Inside.LeastFaults.{TellsLeast}
-use Rattle.timeline.specs.Inside.CheckSteps.{YearKeeps}
+use Rattle.timeline.specs.Inside.RuleChecks.{YearKeeps}
 use Rattle.timeline.proofs.check.years_fault.Given as goal
 
 abbrev pub invariant-loop-kind : goal.invariant-loop-kind

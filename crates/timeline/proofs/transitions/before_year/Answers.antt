@@ -1,6 +1,6 @@
 use Rattle.std.proofs.Common.{ap, ◌∙◌, arith}
 use Rattle.std.proofs.lemmas.Int.{ints}
-use Rattle.timeline.specs.Inside.TransitionSteps.{last_of_year}
+use Rattle.timeline.specs.Inside.YearTransitions.{last_of_year}
 use Rattle.timeline.proofs.NextYears.{last_before_year}
 use Rattle.timeline.proofs.transitions.before_year.Goals as goal
 

@@ -1,5 +1,5 @@
 use Rattle.std.proofs.Common.{◌≡◌, false, arith}
-use Rattle.timeline.specs.Inside.TransitionSteps.{is_idle}
+use Rattle.timeline.specs.Inside.YearTransitions.{is_idle}
 use Rattle.timeline.proofs.NextYears.{first_here}
 use Rattle.timeline.proofs.transitions.first_in_table.Goals as goal
 

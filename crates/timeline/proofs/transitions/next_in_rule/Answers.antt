@@ -1,6 +1,6 @@
 use Rattle.std.proofs.Common.{◌≡◌, true, false, inl, inr, w64, rules, FitsSigned, sym, ◌∙◌, arith}
 use Rattle.std.proofs.lemmas.Int.{ints, to_z-of_z}
-use Rattle.timeline.specs.Inside.TransitionSteps.{is_idle}
+use Rattle.timeline.specs.Inside.YearTransitions.{is_idle}
 use Rattle.timeline.proofs.NextAnswers.{next_first, next_second, next_year}
 use Rattle.timeline.proofs.transitions.next_in_rule.Goals.{then-not-is_idle+else-second-first+else-second-last, else-not-is_idle}
 use Rattle.timeline.proofs.transitions.next_in_rule.Goals as goal

@@ -1,6 +1,6 @@
 use Rattle.std.proofs.Common.{◌≡◌, true, false, inl, inr, w32, w64, rules, FitsSigned, refl, sym, ◌∙◌}
 use Rattle.std.proofs.lemmas.Int.{to_z-of_z}
-use Rattle.timeline.specs.Inside.TransitionSteps.{is_idle}
+use Rattle.timeline.specs.Inside.YearTransitions.{is_idle}
 use Rattle.timeline.proofs.NextAnswers.{prev_first, prev_second, prev_year}
 use Rattle.timeline.proofs.transitions.prev_in_rule.Goals.{then-not-is_idle+else-is_up_to+else-is_up_to-2, else-not-is_idle}
 use Rattle.timeline.proofs.transitions.prev_in_rule.Goals as goal

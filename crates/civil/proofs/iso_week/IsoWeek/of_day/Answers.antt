@@ -8,7 +8,7 @@ use Rattle.civil.proofs.iso_week.IsoWeek.of_day.Goals as goal
 pub unreachable-requires : goal.unreachable-requires
 unreachable-requires c =
     let at = c.thursday_in-thursday.ensures in
-    let no : false ≡ true = c.in-None.ensures.some.1 (omega (arith, signed_arith, first_start_i32, at.low, at.high), omega (arith, signed_arith, last_start_i32, at.low, at.high)) in
+    let no : false ≡ true = c.in-None.ensures.some.1 (omega (arith, signed_arith, first_start_i32, at.bound), omega (arith, signed_arith, last_start_i32, at.bound)) in
     cc
 
 pub returns : goal.returns
@@ -22,7 +22,7 @@ returns c =
     let ordinal = c.ordinal_in.ensures.value in
     week_by_ordinal c.args.day _ c.thursday_in-thursday.result c.ordinal_in.result (at.value ∙ ap thursday_of day)
     (record {
-      begun = omega (arith, signed_arith, at.low, at.high, holds.begun, ap year_start same);
-      not_over = omega (arith, signed_arith, at.low, at.high, holds.not_over, next);
+      begun = omega (arith, signed_arith, at.bound, holds.begun, ap year_start same);
+      not_over = omega (arith, signed_arith, at.bound, holds.not_over, next);
     })
-    (omega (arith, signed_arith, at.low, at.high, ordinal, ap year_start same))
+    (omega (arith, signed_arith, at.bound, ordinal, ap year_start same))

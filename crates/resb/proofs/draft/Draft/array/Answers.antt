@@ -1,11 +1,12 @@
 use Rattle.std.proofs.Common.{rules, ◌≡◌, [], ◌++◌, length, refl, arith}
 use Rattle.std.specs.Prelude.{vec_len}
+use Rattle.std.proofs.lemmas.List.Sums.{sum_by-append}
+use Rattle.resb_tree.specs.Weight.{weight}
 use Rattle.resb_tree.specs.declared.resource.Resource.TheVariants as r
 use Rattle.resb.specs.Pool.{place_of}
 use Rattle.resb.proofs.RowParents.{split, parent_more}
 use Rattle.resb.proofs.LaidWords.{err_on}
 use Rattle.resb.proofs.Rooms.{refused_heavy, refused_long}
-use Rattle.resb.proofs.Rows.{weights_both}
 use Rattle.resb.proofs.Refusals.{array_short, array_large, parent_deep}
 use Rattle.resb.proofs.TreeKinds.{parent-Array}
 use Rattle.resb.proofs.draft.Draft.array.Goals as goal
@@ -28,7 +29,7 @@ returns-in_err-left c =
     let d = c.args.self.now in
     let n : vec_len d.laying.items ≡ length d.laying.items.items = search rules in
     err_on _ _ _ _ c.from_residual-in_err-left.ensures.1 (array_large d c.args.count c.in_ok-kept.kept _ (omega (arith, n, c.len.ensures, c.in_ok-kept.ensures.value))
-    (λ keys row xs k h. refused_heavy d keys (row ++ xs) row (r.Array xs) 0 _ _ (omega (arith, (parent-Array xs).weighs, weights_both row xs)) h c.in_err-left.ensures.err (λ words room. (words, room))))
+    (λ keys row xs k h. refused_heavy d keys (row ++ xs) row (r.Array xs) 0 _ _ (omega (arith, (parent-Array xs).weighs, sum_by-append weight row xs)) h c.in_err-left.ensures.err (λ words room. (words, room))))
 
 pub returns-in_err-item : goal.returns-in_err-item
 returns-in_err-item c =

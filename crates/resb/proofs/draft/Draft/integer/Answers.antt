@@ -1,5 +1,6 @@
 use Rattle.std.proofs.Common.{◌∙◌, sym, arith}
-use Rattle.std.proofs.lemmas.Bool.{ltb-false}
+use Rattle.std.proofs.lemmas.Bool.{leb-false}
+use Rattle.resb_tree.specs.Words.{value_count}
 use Rattle.resb_tree.specs.declared.resource.Resource.TheVariants as r
 use Rattle.resb.proofs.LaidWords.{err_on}
 use Rattle.resb.proofs.Rooms.{refused_heavy, leaf_long}
@@ -15,7 +16,7 @@ returns-in_err-left c =
 pub returns-in_err-item : goal.returns-in_err-item
 returns-in_err-item c =
     let v = c.args.value in
-    err_on _ _ _ _ c.from_residual-in_err-item.ensures.1 (leaf_long c.args.self.now (r.Integer v) _ _ c.in_err-item.ensures.err (λ places fits. omega (arith, ltb-false 268435455 v (sym (leaf-Integer v).wide_is ∙ fits.small))))
+    err_on _ _ _ _ c.from_residual-in_err-item.ensures.1 (leaf_long c.args.self.now (r.Integer v) _ _ c.in_err-item.ensures.err (λ places fits. omega (arith, leb-false value_count v (sym (leaf-Integer v).wide_is ∙ fits.small))))
 
 pub returns-in_err-put : goal.returns-in_err-put
 returns-in_err-put c = err_on _ _ _ _ c.from_residual-in_err-put.ensures.1 (λ keys row h. tt)

@@ -1,17 +1,18 @@
 use Rattle.std.proofs.Common.{rules, ◌≡◌, ◌≤◌, ◌∷◌, ◌++◌, length, arith}
-use Rattle.std.specs.Prelude.{map, vec_len}
+use Rattle.std.specs.Prelude.{map, sum_by, vec_len}
 use Rattle.std.proofs.lemmas.List.{length-map}
+use Rattle.std.proofs.lemmas.List.Sums.{sum_by-append}
 use Rattle.resb_tree.specs.declared.error.ResbError.TheVariants.{TooLarge}
 use Rattle.resb_tree.specs.declared.resource.Resource.TheVariants as r
-use Rattle.resb_tree.specs.Weight.{sum_of}
+use Rattle.resb_tree.specs.Weight.{weight}
 use Rattle.resb.specs.Entries.{values_in}
+use Rattle.resb.specs.Packing.{most_unit}
 use Rattle.resb.specs.Pool.{bare, place_of}
 use Rattle.resb.specs.WrittenFiles.{most_of}
 use Rattle.resb.proofs.LaidSteps.{length-values}
 use Rattle.resb.proofs.RowParents.{split, parent_more}
 use Rattle.resb.proofs.LaidWords.{err_on}
 use Rattle.resb.proofs.Rooms.{refused_heavy, refused_long}
-use Rattle.resb.proofs.Rows.{weights_both}
 use Rattle.resb.proofs.Refusals.{names_short, names_large, length-names, parent_deep}
 use Rattle.resb.proofs.TreeKinds.{parent-Table}
 use Rattle.resb.proofs.draft.Draft.table_under.Goals as goal
@@ -29,9 +30,9 @@ returns-then-count-gt65535 c =
     let d = c.args.self.now in
     let n : vec_len d.laying.items ≡ length d.laying.items.items = search rules in
     let l = length-map c.args.keys.now (λ k. k.now) in
-    let many : length (bare c.args.keys.now) ≤ 65535 → ⊥ = λ few. omega (arith, few, l, c.if-count-gt65535.true) in
+    let many : length (bare c.args.keys.now) ≤ most_unit → ⊥ = λ few. omega (arith, few, l, c.if-count-gt65535.true) in
     names_large d (bare c.args.keys.now) c.in_ok-kept.kept TooLarge (omega (arith, n, l, c.len.ensures, c.in_ok-kept.ensures.value))
-    (λ keys row es e p k h. refused_long d keys (row ++ values_in es) row (r.Table es) (length (bare c.args.keys.now) ≤ 65535) TooLarge h many (λ fits. omega (arith, fits.counts, p.entries)))
+    (λ keys row es e p k h. refused_long d keys (row ++ values_in es) row (r.Table es) (length (bare c.args.keys.now) ≤ most_unit) TooLarge h many (λ fits. omega (arith, fits.counts, p.entries)))
 
 pub returns-in_err-level : goal.returns-in_err-level
 returns-in_err-level c =
@@ -47,7 +48,7 @@ returns-in_err-rest c =
     let names = bare c.args.keys.now in
     let n : vec_len d.laying.items ≡ length d.laying.items.items = search rules in
     err_on _ _ _ _ c.from_residual-in_err-rest.ensures.1 (names_large d names c.in_ok-kept.kept _ (omega (arith, n, length-map c.args.keys.now (λ k. k.now), c.len.ensures, c.in_ok-kept.ensures.value))
-    (λ keys row es e p k h. refused_heavy d keys (row ++ values_in es) row (r.Table es) (sum_of (map length names)) _ _ (omega (arith, p.weighs, weights_both row (values_in es))) h c.in_err-rest.ensures.err (λ words room. (words, omega arith))))
+    (λ keys row es e p k h. refused_heavy d keys (row ++ values_in es) row (r.Table es) (sum_by length names) _ _ (omega (arith, p.weighs, sum_by-append weight row (values_in es))) h c.in_err-rest.ensures.err (λ words room. (words, omega arith))))
 
 pub returns-in_err-left : goal.returns-in_err-left
 returns-in_err-left c =
@@ -55,7 +56,7 @@ returns-in_err-left c =
     let names = bare c.args.keys.now in
     let n : vec_len d.laying.items ≡ length d.laying.items.items = search rules in
     err_on _ _ _ _ c.from_residual-in_err-left.ensures.1 (names_large d names c.in_ok-kept.kept _ (omega (arith, n, length-map c.args.keys.now (λ k. k.now), c.len.ensures, c.in_ok-kept.ensures.value))
-    (λ keys row es e p k h. refused_heavy d keys (row ++ values_in es) row (r.Table es) (sum_of (map length names)) _ _ (omega (arith, p.weighs, weights_both row (values_in es))) h c.in_err-left.ensures.err (λ words room. omega (arith, c.in_ok-rest.ensures.rest))))
+    (λ keys row es e p k h. refused_heavy d keys (row ++ values_in es) row (r.Table es) (sum_by length names) _ _ (omega (arith, p.weighs, sum_by-append weight row (values_in es))) h c.in_err-left.ensures.err (λ words room. omega (arith, c.in_ok-rest.ensures.rest))))
 
 pub returns-in_err-push : goal.returns-in_err-push
 returns-in_err-push c = err_on _ _ _ _ c.from_residual-in_err-push.ensures.1 (record { short = λ keys row lt h. tt; large = λ keys row es e h. tt })
@@ -75,7 +76,7 @@ returns-in_err-item c =
     let l = length-map c.args.keys.now (λ k. k.now) in
     err_on _ _ _ _ c.from_residual-in_err-item.ensures.1 (names_large d names c.in_ok-kept.kept _ (omega (arith, n, l, c.len.ensures, c.in_ok-kept.ensures.value))
     (λ keys row es e p k h.
-    let near : most_of (map (place_of keys) names) ≤ 65535 = rw h.0 at c.in_ok-push_places.ensures.bound in
+    let near : most_of (map (place_of keys) names) ≤ most_unit = rw h.0 at c.in_ok-push_places.ensures.bound in
     let units : c.push_places.new.units.items ≡ length c.args.keys.now ∷ map (place_of keys) names = rw (c.in_ok-push.ensures.items, c.clear.ensures.items, h.0) at c.in_ok-push_places.ensures.units in
     let count : length es ≡ length c.args.keys.now = omega (arith, l, length-names es names e, length-values es) in
     refused_long d keys (row ++ values_in es) row (r.Table es) _ _ h (c.in_err-item.ensures.lays (place_of keys) es _ (split d keys row (values_in es) c.in_ok-kept.kept h k).stands (rw e near) (rw (count, e) units)) (λ fits. fits)))
@@ -90,7 +91,7 @@ returns c =
     let n : vec_len d.laying.items ≡ length d.laying.items.items = search rules in
     let l = length-map c.args.keys.now (λ k. k.now) in
     λ keys row es e good apart h.
-    let near : most_of (map (place_of keys) names) ≤ 65535 = rw h.0 at c.in_ok-push_places.ensures.bound in
+    let near : most_of (map (place_of keys) names) ≤ most_unit = rw h.0 at c.in_ok-push_places.ensures.bound in
     let units : c.push_places.new.units.items ≡ length c.args.keys.now ∷ map (place_of keys) names = rw (c.in_ok-push.ensures.items, c.clear.ensures.items, h.0) at c.in_ok-push_places.ensures.units in
     let count : length es ≡ length c.args.keys.now = omega (arith, l, length-names es names e, length-values es) in
     let s = split d keys row (values_in es) c.in_ok-kept.kept h (omega (arith, n, count, length-values es, c.len.ensures, c.in_ok-kept.ensures.value)) in (

@@ -1,4 +1,5 @@
 use Rattle.std.proofs.Common.{◌≡◌, ◌≢◌, ◌∙◌, ◌+◌, ◌-◌, ◌*◌, ◌≤◌, ◌∷◌, [], length, ap, arith}
+use Rattle.resb_tree.specs.Weight.{most_weight}
 use Rattle.resb.specs.Inside.Bundles.{bundle_of}
 use Rattle.resb.specs.TreeKeys.{key_pool}
 use Rattle.resb.specs.WrittenFiles.{written}
@@ -34,7 +35,7 @@ returns-clause-words c =
 pub returns-clause-bound : goal.returns-clause-bound
 returns-clause-bound c =
     let d = c.args.self in
-    let light : 8388608 - d.left ≤ 8 * (6 + (d.base + length d.laying.words.items)) = omega (arith, c.in_ok-words.ensures.bound, c.saturating_sub-weighed.ensures, ap length c.as_slice-2.ensures.value) in
+    let light : most_weight - d.left ≤ 8 * (6 + (d.base + length d.laying.words.items)) = omega (arith, c.in_ok-words.ensures.bound, c.saturating_sub-weighed.ensures, ap length c.as_slice-2.ensures.value) in
     λ tree h. row_light tree d.base d.laying.words.items d.laying.items.items d.levels.items d.left d.most h.1 light
 
 pub returns-clause-denoted : goal.returns-clause-denoted
