@@ -51,6 +51,7 @@ pub enum DateError {
     Memory,
 }
 
+/// What a call that reads a phrase gives: its value, or why the phrase is refused.
 pub type DateResult<T> = Result<T, DateError>;
 
 impl Display for Expected {

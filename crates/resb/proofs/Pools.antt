@@ -12,7 +12,7 @@ use Rattle.std.proofs.lemmas.List.{append-nil, length-append, map-append}
 use Rattle.std.proofs.lemmas.Map.Text.{btree_map_updates_str}
 use Rattle.std.proofs.lemmas.Slice.Eq.{bytes_eq-Decides}
 use Rattle.resb_tree.specs.Keys.{stands_in}
-use Rattle.resb_tree.specs.Bodies.{◌>>=◌}
+use Rattle.resb_tree.specs.Options.{◌>>=◌}
 use Rattle.resb.specs.Packing.{most_unit}
 use Rattle.resb.specs.Pool.{bare, place_of, pool_end}
 use Rattle.resb.specs.Inside.Pooling.{place_told, added, pooled}

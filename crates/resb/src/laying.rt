@@ -1,7 +1,6 @@
 ghost use Rattle.std.specs.Prelude.{◌≡◌, ◌+◌, ◌<◌, ◌≤◌, ◌++◌, nat_le, length, OnOk, IfOk, IfErr};
 ghost use Rattle.resb.specs.Plan.{most_words, Refuses};
-ghost use Rattle.resb.specs.Inside.Laying.{no_places};
-ghost use Rattle.resb.specs.LaidTrees.{laid};
+ghost use Rattle.resb.specs.Inside.Laying.{leaf_words, leaf_item, LeafFits};
 ghost use Rattle.resb_tree.specs.Words.{value_count};
 ghost use Rattle.resb_tree.specs.declared.resource.Resource.TheVariants as r;
 
@@ -35,13 +34,12 @@ pub fn has_room(base: usize, out: &Vec<u32>, more: usize) -> bool
 pub fn lay_text(units: &[u16], base: usize, out: &mut Vec<u32>) -> Result<u32, ResbError>
     requires { base + length out.old.items ≤ most_words }
     ensures words { OnOk result (out.new.items ≡ out.old.items
-        ++ (laid (r.Text units.now) no_places (base + length out.old.items)).0) }
+        ++ leaf_words (r.Text units.now) (base + length out.old.items)) }
     ensures item { IfOk result
-        (λ v. v ≡ (laid (r.Text units.now) no_places (base + length out.old.items)).1) }
-    ensures bound { let at = base + length out.old.items in
-        OnOk result (at + length (laid (r.Text units.now) no_places at).0 ≤ most_words) }
-    ensures err { let at = base + length out.old.items in IfErr result
-        (Refuses (at + length (laid (r.Text units.now) no_places at).0 ≤ most_words)) }
+        (λ v. v ≡ leaf_item (r.Text units.now) (base + length out.old.items)) }
+    ensures bound { OnOk result (LeafFits (r.Text units.now) (base + length out.old.items)) }
+    ensures err { IfErr result
+        (Refuses (LeafFits (r.Text units.now) (base + length out.old.items))) }
 {
     let count = units.len();
     if count == 0 {
@@ -61,13 +59,12 @@ pub fn lay_text(units: &[u16], base: usize, out: &mut Vec<u32>) -> Result<u32, R
 pub fn lay_bytes(bytes: &[u8], base: usize, out: &mut Vec<u32>) -> Result<u32, ResbError>
     requires { base + length out.old.items ≤ most_words }
     ensures words { OnOk result (out.new.items ≡ out.old.items
-        ++ (laid (r.Bytes bytes.now) no_places (base + length out.old.items)).0) }
+        ++ leaf_words (r.Bytes bytes.now) (base + length out.old.items)) }
     ensures item { IfOk result
-        (λ v. v ≡ (laid (r.Bytes bytes.now) no_places (base + length out.old.items)).1) }
-    ensures bound { let at = base + length out.old.items in
-        OnOk result (at + length (laid (r.Bytes bytes.now) no_places at).0 ≤ most_words) }
-    ensures err { let at = base + length out.old.items in IfErr result
-        (Refuses (at + length (laid (r.Bytes bytes.now) no_places at).0 ≤ most_words)) }
+        (λ v. v ≡ leaf_item (r.Bytes bytes.now) (base + length out.old.items)) }
+    ensures bound { OnOk result (LeafFits (r.Bytes bytes.now) (base + length out.old.items)) }
+    ensures err { IfErr result
+        (Refuses (LeafFits (r.Bytes bytes.now) (base + length out.old.items))) }
 {
     let count = bytes.len();
     if count == 0 {
@@ -87,17 +84,12 @@ pub fn lay_bytes(bytes: &[u8], base: usize, out: &mut Vec<u32>) -> Result<u32, R
 pub fn lay_integers(values: &[u32], base: usize, out: &mut Vec<u32>) -> Result<u32, ResbError>
     requires { base + length out.old.items ≤ most_words }
     ensures words { OnOk result (out.new.items ≡ out.old.items
-        ++ (laid (r.Integers values.now) no_places (base + length out.old.items)).0) }
+        ++ leaf_words (r.Integers values.now) (base + length out.old.items)) }
     ensures item { IfOk result
-        (λ v. v ≡ (laid (r.Integers values.now) no_places (base + length out.old.items)).1) }
-    ensures bound { OnOk result
-        (base + length out.old.items
-        + length (laid (r.Integers values.now) no_places (base + length out.old.items)).0
-        ≤ most_words) }
+        (λ v. v ≡ leaf_item (r.Integers values.now) (base + length out.old.items)) }
+    ensures bound { OnOk result (LeafFits (r.Integers values.now) (base + length out.old.items)) }
     ensures err { IfErr result
-        (Refuses (base + length out.old.items
-        + length (laid (r.Integers values.now) no_places (base + length out.old.items)).0
-        ≤ most_words)) }
+        (Refuses (LeafFits (r.Integers values.now) (base + length out.old.items))) }
 {
     let count = values.len();
     if count == 0 {

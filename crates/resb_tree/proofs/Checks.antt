@@ -6,7 +6,8 @@ use Rattle.std.proofs.lemmas.List.Elements.{All-set}
 use Rattle.std.proofs.lemmas.Bool.Decides.{leb_tells}
 use Rattle.resb_tree.specs.declared.checker.Met.{Met}
 use Rattle.resb_tree.specs.Words.{run, byte_in}
-use Rattle.resb_tree.specs.Bodies.{◌>>=◌, Body}
+use Rattle.resb_tree.specs.Options.{◌>>=◌}
+use Rattle.resb_tree.specs.Bodies.{Body}
 use Rattle.resb_tree.specs.Tables.{key_at}
 use Rattle.resb_tree.specs.Inside.Left.{spent, key_left, entries_left}
 use Rattle.resb_tree.specs.Inside.Spans.{key_stop}

@@ -6,7 +6,8 @@ use Rattle.std.proofs.lemmas.Bool.Decides.{leb_tells, eqb_tells, nat_tests}
 use Rattle.std.proofs.lemmas.List.{map-append, append-nil, drop_all}
 use Rattle.resb_tree.specs.Words.{run, byte_in}
 use Rattle.resb_tree.specs.Keys.{distinct, keys_in}
-use Rattle.resb_tree.specs.Bodies.{◌>>=◌, Body}
+use Rattle.resb_tree.specs.Options.{◌>>=◌}
+use Rattle.resb_tree.specs.Bodies.{Body}
 use Rattle.resb_tree.specs.Tables.{key_from, key_at}
 use Rattle.resb_tree.specs.Inside.KeyPlaces.{key_there, IsKey, keys_there}
 use Rattle.resb_tree.proofs.Held.{held_first, held_next}

@@ -12,7 +12,8 @@ use Rattle.resb_tree.specs.declared.forms.TableForm.TheVariants as table
 use Rattle.resb_tree.specs.Words.{run, unit_in, byte_in}
 use Rattle.resb_tree.specs.Keys.{distinct}
 use Rattle.resb_tree.specs.Contents.{text_in, text_layer, bytes_in, bytes_layer, integers_in, integers_layer, items_in, items_layer, entries_in, entries_layer, index_in, index_layer}
-use Rattle.resb_tree.specs.Bodies.{◌>>=◌, when, Body, area_unit, counted}
+use Rattle.resb_tree.specs.Options.{◌>>=◌, when}
+use Rattle.resb_tree.specs.Bodies.{Body, area_unit, counted}
 use Rattle.resb_tree.specs.declared.forms.ArrayForm.{ArrayForm}
 use Rattle.resb_tree.specs.declared.forms.ArrayForm.TheVariants as array
 use Rattle.resb_tree.specs.declared.forms.TableForm.{TableForm}
@@ -20,7 +21,7 @@ use Rattle.resb_tree.specs.Arrays.{all_of, array_at, short_array_at}
 use Rattle.resb_tree.specs.Tables.{entries_of, key_at, short_table_at}
 use Rattle.resb_tree.specs.Leaves.{integers_at, text_at, bytes_at, short_text_at}
 use Rattle.resb_tree.specs.Tree.{by_type, tree_at}
-use Rattle.resb_tree.specs.Forms.{item_in, entry_in}
+use Rattle.resb_tree.specs.Inside.Forms.{item_in, entry_in}
 use Rattle.resb_tree.specs.Inside.Counts.{no_items, array_count, no_entries, table_count}
 use Rattle.resb_tree.specs.Inside.Spans.{short_span}
 use Rattle.resb_tree.specs.Inside.Places.{tree_there, IsTree}

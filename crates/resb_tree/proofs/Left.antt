@@ -13,12 +13,13 @@ use Rattle.resb_tree.specs.declared.forms.TableForm.TheVariants as table
 use Rattle.resb_tree.specs.Words.{run, unit_in, byte_in}
 use Rattle.resb_tree.specs.Weight.{weight}
 use Rattle.resb_tree.specs.Keys.{distinct}
-use Rattle.resb_tree.specs.Bodies.{◌>>=◌, when, Body, area_unit, counted}
+use Rattle.resb_tree.specs.Options.{◌>>=◌, when}
+use Rattle.resb_tree.specs.Bodies.{Body, area_unit, counted}
 use Rattle.resb_tree.specs.Arrays.{all_of, array_at, short_array_at}
 use Rattle.resb_tree.specs.Leaves.{integers_at, text_at, bytes_at, short_text_at}
 use Rattle.resb_tree.specs.Tables.{key_at, entries_of, table_of, table16_at, table32_at, short_table_at}
 use Rattle.resb_tree.specs.Tree.{by_type, tree_at, denoted}
-use Rattle.resb_tree.specs.Forms.{item_in, entry_in}
+use Rattle.resb_tree.specs.Inside.Forms.{item_in, entry_in}
 use Rattle.resb_tree.specs.Inside.Counts.{no_items, array_count, no_entries, table_count}
 use Rattle.resb_tree.specs.Inside.Left.{spent, counted_left, short_text_left, items_left, array_left, key_left, entries_left, table_left}
 use Rattle.resb_tree.specs.Inside.Spans.{short_span}

@@ -13,11 +13,12 @@ use Rattle.resb_tree.specs.declared.forms.TableForm.TheVariants as table
 use Rattle.resb_tree.specs.Words.{run, unit_in}
 use Rattle.resb_tree.specs.Keys.{distinct}
 use Rattle.resb_tree.specs.Contents.{items_in, entries_in}
-use Rattle.resb_tree.specs.Bodies.{◌>>=◌, Body, area_len, area_unit}
+use Rattle.resb_tree.specs.Options.{◌>>=◌}
+use Rattle.resb_tree.specs.Bodies.{Body, area_len, area_unit}
 use Rattle.resb_tree.specs.Arrays.{all_of, array_at, short_array_at}
 use Rattle.resb_tree.specs.Tables.{entries_of, key_at, short_table_at}
 use Rattle.resb_tree.specs.Tree.{by_type, tree_at}
-use Rattle.resb_tree.specs.Forms.{item_in, items_end, entry_in, EntriesLie}
+use Rattle.resb_tree.specs.Inside.Forms.{item_in, items_end, entry_in, EntriesLie}
 use Rattle.resb_tree.specs.Inside.Counts.{no_items, array_count, no_entries, table_count}
 use Rattle.resb_tree.specs.Inside.Places.{the_tree, tree_there, IsTree, items_there, AreItems, entries_there, AreEntries}
 use Rattle.resb_tree.specs.Inside.KeyPlaces.{the_list, key_there}

@@ -3,7 +3,8 @@ use Rattle.std.proofs.Common.{◌≡◌, ℕ, zero, suc, ◌+◌, ◌-◌, ◌*�
 use Rattle.resb_tree.specs.declared.resource.Resource.{Resource}
 use Rattle.resb_tree.specs.declared.resource.Resource.TheVariants as r
 use Rattle.resb_tree.specs.Words.{run, byte_in}
-use Rattle.resb_tree.specs.Bodies.{◌>>=◌, Body, area_len, area_unit}
+use Rattle.resb_tree.specs.Options.{◌>>=◌}
+use Rattle.resb_tree.specs.Bodies.{Body, area_len, area_unit}
 use Rattle.resb_tree.specs.Leaves.{area_text, units_to_zero, short_text_at}
 use Rattle.resb_tree.specs.Tables.{key_from, key_at}
 use Rattle.resb_tree.specs.Inside.Spans.{zero_from, span_inside, short_span, key_stop}

@@ -3,7 +3,8 @@ use Rattle.std.specs.Prelude.{ℕ, ◌+◌, List, [], ◌∷◌, slice_index, Op
 use Rattle.resb_tree.specs.Words.{run}
 use Rattle.resb_tree.specs.declared.resource.Resource.{Resource}
 use Rattle.resb_tree.specs.declared.resource.Resource.TheVariants as r
-use Rattle.resb_tree.specs.Bodies.{◌>>=◌, Body, text_item, counted, area_counted}
+use Rattle.resb_tree.specs.Options.{◌>>=◌}
+use Rattle.resb_tree.specs.Bodies.{Body, text_item, counted, area_counted}
 
 -- what each item denotes, in order, where each denotes something
 abbrev pub all_of : (ℕ → Option Resource) → List ℕ → Option (List Resource)

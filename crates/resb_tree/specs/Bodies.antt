@@ -1,17 +1,7 @@
 -- The words of a bundle behind its header, and what is counted in them (ICU resource bundle, format 2; docs/FORMATS.md,
 -- "Items").
-use Rattle.std.specs.Prelude.{ℕ, ◌+◌, ◌-◌, ◌*◌, ◌/◌, Bool, ◌&&◌, List, slice_index, Option, Some, None, if◌then◌else◌, nat_le, nat_lt, cond}
+use Rattle.std.specs.Prelude.{ℕ, ◌+◌, ◌-◌, ◌*◌, ◌/◌, ◌&&◌, List, slice_index, Option, Some, None, if◌then◌else◌, nat_le, nat_lt}
 use Rattle.resb_tree.specs.Words.{unit_in}
-
--- what comes of a value, where there is one
-infixl 10 ◌>>=◌
-abbrev pub ◌>>=◌ : {A B : Type 0} → Option A → (A → Option B) → Option B
-(Some x) >>= f = f x
-None >>= f = None
-
--- a value, where a condition holds
-abbrev pub when : Bool → {A : Type 0} → A → Option A
-when b x = cond b (Some x) None
 
 -- the words behind the header; the keys end at keys_end, the 16-bit area goes on to area_end, and all data end at end
 pub record Body : Type 0 where

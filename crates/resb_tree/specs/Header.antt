@@ -1,7 +1,8 @@
 -- The header and the index of a bundle (docs/FORMATS.md, "Header and index").
 use Rattle.std.specs.Prelude.{ℕ, ◌+◌, ◌*◌, ◌/◌, ◌%◌, Bool, ◌&&◌, List, length, drop, slice_index, Option, Some, None, if◌then◌else◌, ◌==◌, nat_le}
 use Rattle.resb_tree.specs.Words.{byte_in}
-use Rattle.resb_tree.specs.Bodies.{◌>>=◌, Body, body}
+use Rattle.resb_tree.specs.Options.{◌>>=◌}
+use Rattle.resb_tree.specs.Bodies.{Body, body}
 use Rattle.resb_tree.specs.Tree.{denoted}
 use Rattle.resb_tree.specs.declared.resource.Resource.{Resource}
 

@@ -3,7 +3,8 @@ use Rattle.std.specs.Prelude.{ℕ, zero, suc, ◌+◌, ◌-◌, ◌*◌, ◌%◌
 use Rattle.resb_tree.specs.Words.{byte_in, unit_in, run}
 use Rattle.resb_tree.specs.declared.resource.Resource.{Resource}
 use Rattle.resb_tree.specs.declared.resource.Resource.TheVariants as r
-use Rattle.resb_tree.specs.Bodies.{◌>>=◌, Body, area_len, area_unit, counted}
+use Rattle.resb_tree.specs.Options.{◌>>=◌}
+use Rattle.resb_tree.specs.Bodies.{Body, area_len, area_unit, counted}
 
 -- so many words behind their count; none where the place is 0
 unfoldable pub integers_at : Body → ℕ → Option Resource

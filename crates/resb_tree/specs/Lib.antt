@@ -1,12 +1,13 @@
 pub mod Arrays
 pub mod Bodies
+pub mod BodyView
 pub mod Contents
 pub mod Fields
-pub mod Forms
 pub mod Header
 pub mod Inside
 pub mod Keys
 pub mod Leaves
+pub mod Options
 pub mod Reading
 pub mod Tables
 pub mod Texts

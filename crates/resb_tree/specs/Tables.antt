@@ -4,7 +4,8 @@ use Rattle.resb_tree.specs.Keys.{distinct}
 use Rattle.resb_tree.specs.Words.{byte_in, unit_in, run}
 use Rattle.resb_tree.specs.declared.resource.Resource.{Resource}
 use Rattle.resb_tree.specs.declared.resource.Resource.TheVariants as r
-use Rattle.resb_tree.specs.Bodies.{◌>>=◌, when, Body, area_unit, text_item, area_counted}
+use Rattle.resb_tree.specs.Options.{◌>>=◌, when}
+use Rattle.resb_tree.specs.Bodies.{Body, area_unit, text_item, area_counted}
 
 -- the bytes from a place up to a zero byte, each 1 to 127, within so many bytes
 unfoldable pub key_from : (ℕ → ℕ) → ℕ → ℕ → Option (List ℕ)

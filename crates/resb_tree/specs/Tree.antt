@@ -4,7 +4,8 @@ use Rattle.resb_tree.specs.Words.{value_count}
 use Rattle.resb_tree.specs.Weight.{weight}
 use Rattle.resb_tree.specs.declared.resource.Resource.{Resource}
 use Rattle.resb_tree.specs.declared.resource.Resource.TheVariants as r
-use Rattle.resb_tree.specs.Bodies.{◌>>=◌, when, Body}
+use Rattle.resb_tree.specs.Options.{◌>>=◌, when}
+use Rattle.resb_tree.specs.Bodies.{Body}
 use Rattle.resb_tree.specs.Leaves.{integers_at, bytes_at, text_at, short_text_at}
 use Rattle.resb_tree.specs.Arrays.{array_at, short_array_at}
 use Rattle.resb_tree.specs.Tables.{table16_at, table32_at, short_table_at}

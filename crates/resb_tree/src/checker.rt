@@ -1,7 +1,8 @@
 ghost use Rattle.std.specs.Prelude.{◌≡◌, ◌+◌, ◌-◌, ◌*◌, ◌<◌, ◌≤◌, ℕ, All, length, IfOk, IfSome, Some, true};
 ghost use Rattle.resb_tree.specs.Words.{run};
 ghost use Rattle.resb_tree.specs.Keys.{distinct};
-ghost use Rattle.resb_tree.specs.Forms.{told, entry_in, EntriesLie};
+ghost use Rattle.resb_tree.specs.BodyView.{told};
+ghost use Rattle.resb_tree.specs.Inside.Forms.{entry_in, EntriesLie};
 ghost use Rattle.resb_tree.specs.Inside.KeyPlaces.{HaveKeys, keys_there, key_length};
 ghost use Rattle.resb_tree.specs.Inside.Slots.{AreMet, AreApart};
 ghost use Rattle.resb_tree.specs.Inside.Left.{key_left};
@@ -51,7 +52,7 @@ impl<'a> Model for Checker<'a> {
 
     ghost Value = { Body };
 
-    ghost use Rattle.resb_tree.specs.Forms.{told};
+    ghost use Rattle.resb_tree.specs.BodyView.{told};
     ghost use Rattle.resb_tree.specs.Inside.Slots.{AreMet, AreApart};
 
     ghost view = { λ r. told r.body };

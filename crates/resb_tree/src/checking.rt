@@ -1,7 +1,8 @@
 //! One walk over the words of a body that tells whether they denote a tree. It keeps nothing of what it passes.
 ghost use Rattle.std.specs.Prelude.{◌≡◌, ℕ, [], ◌+◌, ◌-◌, ◌*◌, ◌<◌, ◌≤◌, length, slice_index, IfOk};
 ghost use Rattle.resb_tree.specs.Words.{run};
-ghost use Rattle.resb_tree.specs.Forms.{told, item_in, items_end, entry_in, EntriesLie};
+ghost use Rattle.resb_tree.specs.BodyView.{told};
+ghost use Rattle.resb_tree.specs.Inside.Forms.{item_in, items_end, entry_in, EntriesLie};
 ghost use Rattle.resb_tree.specs.Reading.{Gives};
 ghost use Rattle.resb_tree.specs.Tree.{denoted};
 ghost use Rattle.resb_tree.specs.Inside.Left.{counted_left, short_text_left, items_left, array_left, key_left, entries_left, table_left};

@@ -1,6 +1,7 @@
 //! How many values, items and entries stand behind a place of a body that has some.
 ghost use Rattle.std.specs.Prelude.{◌≡◌, ◌+◌, ◌<◌};
-ghost use Rattle.resb_tree.specs.Forms.{told, item_in, items_end};
+ghost use Rattle.resb_tree.specs.BodyView.{told};
+ghost use Rattle.resb_tree.specs.Inside.Forms.{item_in, items_end};
 ghost use Rattle.resb_tree.specs.Inside.Parts.{count_there, items_count, entries_end, entries_count};
 
 use crate::body::BodyWords;

@@ -34,7 +34,7 @@ impl<'a> Model for Bundle<'a> {
 
     ghost coded = { Prim.hlevel (codes, e.the_row.coded) };
 
-    ghost use Rattle.resb_tree.specs.Forms.{told};
+    ghost use Rattle.resb_tree.specs.BodyView.{told};
     ghost use Rattle.resb_tree.specs.Inside.Places.{root_there, IsRoot};
 
     ghost view = { λ b. root_there (told b.body) };
@@ -59,7 +59,7 @@ impl<'a> Model for ResourceRef<'a> {
 
     ghost coded = { Prim.hlevel (codes, e.the_row.coded) };
 
-    ghost use Rattle.resb_tree.specs.Forms.{told};
+    ghost use Rattle.resb_tree.specs.BodyView.{told};
     ghost use Rattle.resb_tree.specs.Inside.Places.{tree_there, IsTree};
 
     ghost view = { λ r. tree_there (told r.body.now) r.levels r.item };

@@ -3,7 +3,8 @@ ghost use Rattle.std.specs.Prelude.{◌≡◌, ℕ, ◌+◌, ◌-◌, ◌*◌, �
 ghost use Rattle.std.specs.Str.{bytes_eq};
 ghost use Rattle.resb_tree.specs.Words.{run, byte_in};
 ghost use Rattle.resb_tree.specs.Keys.{distinct, stands_in};
-ghost use Rattle.resb_tree.specs.Forms.{told, entry_in, EntriesLie};
+ghost use Rattle.resb_tree.specs.BodyView.{told};
+ghost use Rattle.resb_tree.specs.Inside.Forms.{entry_in, EntriesLie};
 ghost use Rattle.resb_tree.specs.Inside.KeyPlaces.{key_there, IsKey, HaveKeys, keys_there};
 
 use crate::body::BodyWords;

@@ -1,7 +1,7 @@
 ghost use Rattle.std.specs.Prelude.{◌≡◌, ℕ, ◌+◌, ◌-◌, ◌*◌, ◌<◌, ◌≤◌, length, IfOk};
 ghost use Rattle.resb_tree.specs.Words.{byte_in};
 ghost use Rattle.resb_tree.specs.Keys.{stands_in, distinct, keys_in};
-ghost use Rattle.resb_tree.specs.Forms.{told};
+ghost use Rattle.resb_tree.specs.BodyView.{told};
 ghost use Rattle.resb_tree.specs.Reading.{Gives};
 ghost use Rattle.resb_tree.specs.Inside.Spans.{key_stop};
 

@@ -1,6 +1,6 @@
 ghost use Rattle.std.specs.Prelude.{◌≡◌, ℕ, ◌+◌, ◌-◌, ◌*◌, ◌<◌, ◌≤◌, IfSome};
 ghost use Rattle.resb_tree.specs.Bodies.{area_len, area_unit};
-ghost use Rattle.resb_tree.specs.Forms.{told};
+ghost use Rattle.resb_tree.specs.BodyView.{told};
 ghost use Rattle.resb_tree.specs.Reading.{Gives};
 ghost use Rattle.resb_tree.specs.Inside.Left.{spent};
 ghost use Rattle.resb_tree.specs.Inside.Spans.{zero_from, span_inside, told_span, short_span};

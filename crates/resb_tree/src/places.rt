@@ -1,6 +1,7 @@
 ghost use Rattle.std.specs.Prelude.{◌≡◌, ℕ, ◌+◌, ◌-◌, ◌*◌, ◌/◌, ◌%◌, ◌<◌, ◌≤◌, length, slice_index, IfOk};
 ghost use Rattle.resb_tree.specs.Bodies.{counted, area_counted, area_len, area_unit, text_item};
-ghost use Rattle.resb_tree.specs.Forms.{told, item_in, items_end, entry_in, EntriesLie};
+ghost use Rattle.resb_tree.specs.BodyView.{told};
+ghost use Rattle.resb_tree.specs.Inside.Forms.{item_in, items_end, entry_in, EntriesLie};
 ghost use Rattle.resb_tree.specs.Inside.Counts.{no_items, array_count, no_entries, table_count};
 ghost use Rattle.resb_tree.specs.Reading.{Gives};
 ghost use Rattle.resb_tree.specs.declared.forms.TableForm.TheVariants as table;

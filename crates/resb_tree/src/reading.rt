@@ -1,6 +1,6 @@
 ghost use Rattle.std.specs.Prelude.{◌≡◌, ℕ, ◌+◌, ◌*◌, ◌<◌, ◌≤◌, length, IfOk};
 ghost use Rattle.resb_tree.specs.Header.{header_size, is_header, is_index, body_of, tree_of};
-ghost use Rattle.resb_tree.specs.Forms.{told};
+ghost use Rattle.resb_tree.specs.BodyView.{told};
 ghost use Rattle.resb_tree.specs.Reading.{Gives};
 
 use crate::body::BodyWords;

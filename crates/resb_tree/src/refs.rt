@@ -1,7 +1,8 @@
 //! The parts of a resource, looked at where they stand in the words of a bundle.
 ghost use Rattle.std.specs.Prelude.{◌≡◌, ◌+◌, ◌<◌, ◌≤◌, length, slice_get, take, Some, IfOk};
 ghost use Rattle.std.specs.Str.{bytes_eq};
-ghost use Rattle.resb_tree.specs.Forms.{told, items_end};
+ghost use Rattle.resb_tree.specs.BodyView.{told};
+ghost use Rattle.resb_tree.specs.Inside.Forms.{items_end};
 ghost use Rattle.resb_tree.specs.Fields.{first_with};
 ghost use Rattle.resb_tree.specs.Inside.Parts.{items_count, entries_end, entries_count};
 ghost use Rattle.resb_tree.specs.Inside.Places.{items_there, AreItems, entries_there, AreEntries};
@@ -64,7 +65,7 @@ pub struct KeyRef<'a> {
 
 impl<'a> Model for KeyRef<'a> {
     ghost use Rattle.std.specs.Prelude.{ℕ, List};
-    ghost use Rattle.resb_tree.specs.Forms.{told};
+    ghost use Rattle.resb_tree.specs.BodyView.{told};
     ghost use Rattle.resb_tree.specs.Inside.KeyPlaces.{key_there, IsKey};
 
     ghost Value = { List ℕ };
@@ -94,7 +95,7 @@ impl<'a> Model for ItemsRef<'a> {
 
     ghost coded = { Prim.hlevel (codes, e.the_row.coded) };
 
-    ghost use Rattle.resb_tree.specs.Forms.{told};
+    ghost use Rattle.resb_tree.specs.BodyView.{told};
     ghost use Rattle.resb_tree.specs.Inside.Places.{items_there, AreItems};
 
     ghost view = { λ r. items_there (told r.body.now) r.form r.levels r.from r.count };
@@ -122,7 +123,7 @@ impl<'a> Model for EntriesRef<'a> {
 
     ghost coded = { Prim.hlevel (codes, e.the_row.coded) };
 
-    ghost use Rattle.resb_tree.specs.Forms.{told};
+    ghost use Rattle.resb_tree.specs.BodyView.{told};
     ghost use Rattle.resb_tree.specs.Inside.Places.{entries_there, AreEntries};
 
     ghost view = { λ r. entries_there (told r.body.now) r.form r.levels r.v r.count };

@@ -2,7 +2,8 @@
 ghost use Rattle.std.specs.Prelude.{◌≡◌, ◌+◌, ◌<◌, IfOk, None};
 ghost use Rattle.resb_tree.specs.Contents.{items_in, entries_in};
 ghost use Rattle.resb_tree.specs.declared.resource.Resource.TheVariants as r;
-ghost use Rattle.resb_tree.specs.Forms.{told, items_end};
+ghost use Rattle.resb_tree.specs.BodyView.{told};
+ghost use Rattle.resb_tree.specs.Inside.Forms.{items_end};
 ghost use Rattle.resb_tree.specs.Inside.Parts.{items_count, entries_end, entries_count};
 ghost use Rattle.resb_tree.specs.Inside.Places.{tree_there, IsTree, items_there, AreItems, entries_there, AreEntries};
 

@@ -1,10 +1,10 @@
-ghost use Rattle.std.specs.Prelude.{◌≡◌, ◌≤◌, ◌==◌, ℕ, List, [], length, IfOk, OnOk, OnErr, IsErrOf};
+ghost use Rattle.std.specs.Prelude.{◌≡◌, ◌≤◌, ◌==◌, ◌+◌, ℕ, List, [], length, IfOk, OnOk, OnErr, IsErrOf};
 ghost use Rattle.std.specs.String.{string_bytes};
 ghost use Rattle.streams.specs.Causes.{Rose};
 ghost use Rattle.streams.specs.Whole.{Adds, TookAtMost, TookMore};
 ghost use Rattle.streams.specs.Report.{CutsLongLines};
 ghost use Rattle.streams.specs.Stands.{Stands};
-ghost use Rattle.streams.specs.Ends.{served, EndsBy};
+ghost use Rattle.streams.specs.Ends.{most_input, served, EndsBy};
 ghost use Rattle.streams.specs.Inside.Serving.{RepliesToEnd, LeadsOn, LeadsPartly, LeadsToEnd, LeadsPartlyToEnd, Gains};
 
 use crate::line_start::LineStart;
@@ -147,14 +147,14 @@ pub fn serve<A: Answer, I: Source, O: Sink>(
     ensures stands { Stands (A.reply engine.now) result (I.left input.old) (I.left input.new)
         (O.written output.old) (O.written output.new) }
     ensures ends { EndsBy (served (I.left input.old)) result }
-    ensures too_long { result ≡ Status.TooLong → TookMore (I.left input.old) 16777216 }
+    ensures too_long { result ≡ Status.TooLong → TookMore (I.left input.old) most_input }
     ensures read_fault { result ≡ Status.ReadFault
         → Rose (I.faults input.old) (I.faults input.new) }
     ensures write_fault { result ≡ Status.WriteFault
         → Rose (O.faults output.old) (O.faults output.new) }
     ensures no_usage { result ≡ Status.Usage → ⊥ }
     ensures no_bundle { result ≡ Status.Bundle → ⊥ }
-    ensures taken { TookAtMost (I.left input.old) (I.left input.new) 16777217 }
+    ensures taken { TookAtMost (I.left input.old) (I.left input.new) (most_input + 1) }
 {
     let mut piece = [0u8; PIECE];
     let mut start = LineStart::new(alloc);

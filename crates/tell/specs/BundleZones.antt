@@ -8,10 +8,14 @@ abbrev pub words_of : List ℕ → List ℕ
 words_of (a ∷ b ∷ c ∷ d ∷ bytes) = (a + 256 * b + 65536 * c + 16777216 * d) ∷ words_of bytes
 words_of other = []
 
+-- the most bytes of a bundle
+abbrev pub most_bundle : ℕ
+most_bundle = 4194304
+
 -- the words of a bundle; none where it has over 4,194,304 bytes or a length that 4 does not divide
 unfoldable pub bundle_words : List ℕ → Option (List ℕ)
 bundle_words bytes =
-    if nat_lt 4194304 (length bytes) then None
+    if nat_lt most_bundle (length bytes) then None
     else (if length bytes % 4 == 0 then Some (words_of bytes) else None)
 
 -- the zones of a bundle; none also where its words give no zone list

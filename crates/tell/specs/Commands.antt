@@ -1,5 +1,7 @@
 -- The commands of the program (docs/ARCHITECTURE.md, "The way of the data").
-use Rattle.std.specs.Prelude.{ℕ, ◌==◌, nat_lt, if◌then◌else◌, List, [], ◌∷◌, codes, Option, Some, None, option_and_then}
+use Rattle.std.specs.Prelude.{ℕ, ◌==◌, nat_lt, if◌then◌else◌, List, [], ◌∷◌, map, codes, Option, Some, None, option_and_then}
+use Rattle.std.specs.declared.string.String.{String}
+use Rattle.std.specs.String.{string_bytes}
 use Rattle.std.specs.Option.{option_map}
 use Rattle.std.specs.Str.{bytes_eq}
 use Rattle.timeago.specs.Codes.{coded_language}
@@ -29,3 +31,7 @@ abbrev pub command_of : List (List ℕ) → Option Command
 command_of (name ∷ lang ∷ bundle ∷ []) = three_words name lang
 command_of (name ∷ word ∷ []) = two_words name word
 command_of other = None
+
+-- the command that strings, the words after the program's name, ask for
+abbrev pub asked : {Z : Type 0} → List (String Z) → Option Command
+asked args = command_of (map string_bytes args)

@@ -8,6 +8,7 @@ use Rattle.tell.specs.Fields.{fields_of, without_cr}
 use Rattle.tell.specs.ReplyTexts.{IsReply}
 use Rattle.tell.specs.Ago.{seconds_of, IsAgoReply}
 
+-- a line of over 1,024 bytes has no fields
 no_fields : (line : List ℕ) → 1024 < length line → fields_of line ≡ None
 unfolding fields_of
 no_fields line long =
@@ -26,6 +27,7 @@ at_cuts_long_lines speech zones line text long =
       λ is. rw same is,
     )
 
+-- a last byte, which is dropped or not, is one byte at most
 one_or_none : (v : Bool) (b : ℕ) → 1 ≤ length (cond v [] (b ∷ [])) + 1
 one_or_none true b = omega arith
 one_or_none false b = omega arith
@@ -36,6 +38,7 @@ length-without_cr [] = omega arith
 length-without_cr (b ∷ []) = one_or_none (nat_eq b 13) b
 length-without_cr (b ∷ c ∷ line) = omega (arith, length-without_cr (c ∷ line))
 
+-- a line of over 1,024 bytes is no number of seconds
 no_seconds : (line : List ℕ) → 1024 < length line → seconds_of line ≡ None
 unfolding seconds_of
 no_seconds line long =

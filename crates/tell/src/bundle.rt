@@ -1,6 +1,6 @@
 ghost use Rattle.std.specs.Prelude.{◌≡◌, ◌+◌, ◌*◌, ◌/◌, ◌<◌, ◌≤◌, ◌^◌, ◌==◌, ◌%◌, ℕ, List, length, Some, None, IfOk, IsErrOf, vec_len, nat_lt};
 ghost use Rattle.zoneinfo64.specs.Bundle.{zones_of_words};
-ghost use Rattle.tell.specs.BundleZones.{words_of, bundle_zones};
+ghost use Rattle.tell.specs.BundleZones.{most_bundle, words_of, bundle_zones};
 
 use std::alloc::{AllocError, Global};
 use zoneinfo64::{BinaryDeserializerError, ZoneInfo64};
@@ -32,7 +32,7 @@ fn words(alloc: Global, bytes: &[u8]) -> Result<Vec<u32>, AllocError>
 #[tactic(auto, unfolding(crate::specs::BundleZones::bundle_zones, crate::specs::BundleZones::bundle_words, zoneinfo64::specs::Bundle::zones_of_words))]
 /// The zones of a bundle of at most 4,194,304 bytes, which are given up once their words are there.
 pub fn zones_of_bytes(alloc: Global, bytes: Vec<u8>) -> Result<ZoneInfo64, BundleError>
-    requires { vec_len bytes ≤ 4194304 }
+    requires { vec_len bytes ≤ most_bundle }
     ensures zones { IfOk result (λ zones. bundle_zones bytes.items ≡ Some zones) }
     ensures bundle { IsErrOf result BundleError.Bundle → bundle_zones bytes.items ≡ None }
 {

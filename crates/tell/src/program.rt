@@ -1,15 +1,14 @@
-ghost use Rattle.std.specs.Prelude.{◌≡◌, ◌⊎◌, ◌↔◌, map, Some, None, IfSome};
-ghost use Rattle.std.specs.String.{string_bytes};
+ghost use Rattle.std.specs.Prelude.{◌≡◌, ◌⊎◌, ◌↔◌, ◌+◌, Some, None, IfSome};
 ghost use Rattle.std.specs.Option.{option_map};
 ghost use Rattle.timeago.specs.Codes.{coded_language};
 ghost use Rattle.tongues.specs.Any.{any_speech};
 ghost use Rattle.streams.specs.Causes.{Rose};
-ghost use Rattle.streams.specs.Ends.{EndsAs, EndsBy};
+ghost use Rattle.streams.specs.Ends.{most_input, EndsAs, EndsBy};
 ghost use Rattle.streams.specs.Stands.{Stands};
 ghost use Rattle.streams.specs.Whole.{TookAtMost, TookMore};
-ghost use Rattle.tell.specs.Commands.{load_count, two_words, three_words, command_of};
+ghost use Rattle.tell.specs.Commands.{load_count, two_words, three_words, asked};
 ghost use Rattle.tell.specs.Run.{planned, RefusesBundle, AcceptsBundle, ReadFaultRose};
-ghost use Rattle.tell.specs.BundleZones.{bundle_zones};
+ghost use Rattle.tell.specs.BundleZones.{most_bundle, bundle_zones};
 ghost use Rattle.tell.specs.Reports.{IsReplyWith, Reported, IsReported};
 ghost use Rattle.tell.specs.Standing.{StandsAfter, NeedsNoBundle, ReadsNothing};
 ghost use Rattle.tell.specs.declared.program.Command.{Command};
@@ -93,7 +92,7 @@ fn read_three(name: &str, lang: &str) -> Option<Command>
 }
 
 fn read_command(args: &[String]) -> Option<Command>
-    ensures { result ≡ command_of (map string_bytes args.now) }
+    ensures { result ≡ asked args.now }
 {
     match args {
         [name, lang, _] => read_three(name.as_str(), lang.as_str()),
@@ -124,14 +123,14 @@ pub fn at<B: Source, I: Source, O: Sink>(
         → RefusesBundle (Some (command.At language)) (B.left bundle.old) }
     ensures accepted { result ≡ Status.TooLong
         → AcceptsBundle (Some (command.At language)) (B.left bundle.old) }
-    ensures too_long { result ≡ Status.TooLong → TookMore (I.left input.old) 16777216 }
+    ensures too_long { result ≡ Status.TooLong → TookMore (I.left input.old) most_input }
     ensures read_fault { result ≡ Status.ReadFault
         → Rose (B.faults bundle.old) (B.faults bundle.new)
         ⊎ Rose (I.faults input.old) (I.faults input.new) }
     ensures write_fault { result ≡ Status.WriteFault
         → Rose (O.faults output.old) (O.faults output.new) }
-    ensures bundle_taken { TookAtMost (B.left bundle.old) (B.left bundle.new) 4194305 }
-    ensures input_taken { TookAtMost (I.left input.old) (I.left input.new) 16777217 }
+    ensures bundle_taken { TookAtMost (B.left bundle.old) (B.left bundle.new) (most_bundle + 1) }
+    ensures input_taken { TookAtMost (I.left input.old) (I.left input.new) (most_input + 1) }
 {
     let bytes = match read_all(alloc, bundle, MAX_BUNDLE) {
         Ok(bytes) => bytes,
@@ -169,43 +168,40 @@ pub fn run<B: Source, I: Source, O: Sink>(
     output: &mut O,
 ) -> Status
     // What the command reads was read to its end, and the sink gained one answer for each line, and nothing else.
-    ensures done { result ≡ Status.Done → IsReported (command_of (map string_bytes args.now))
+    ensures done { result ≡ Status.Done → IsReported (asked args.now)
         (B.left bundle.old) (B.left bundle.new) (I.left input.old) (I.left input.new)
         (O.written output.old) (O.written output.new) }
 
     // What the sink gained for the bytes that were taken, after each status.
-    ensures stands { StandsAfter (command_of (map string_bytes args.now)) (B.left bundle.old)
-        result (I.left input.old) (I.left input.new) (O.written output.old) (O.written output.new) }
+    ensures stands { StandsAfter (asked args.now) (B.left bundle.old) result
+        (I.left input.old) (I.left input.new) (O.written output.old) (O.written output.new) }
     ensures usage_untouched { result ≡ Status.Usage
         → (bundle.new ≡ bundle.old) × (input.new ≡ input.old) × (output.new ≡ output.old) }
     ensures bundle_untouched { result ≡ Status.Bundle
         → (input.new ≡ input.old) × (output.new ≡ output.old) }
-    ensures no_bundle { NeedsNoBundle (command_of (map string_bytes args.now))
-        → bundle.new ≡ bundle.old }
-    ensures no_source { ReadsNothing (command_of (map string_bytes args.now))
+    ensures no_bundle { NeedsNoBundle (asked args.now) → bundle.new ≡ bundle.old }
+    ensures no_source { ReadsNothing (asked args.now)
         → (bundle.new ≡ bundle.old) × (input.new ≡ input.old) }
 
     // It ends as planned, or with a fault, or for want of memory.
-    ensures ends { EndsBy (planned (command_of (map string_bytes args.now))
-        (B.left bundle.old) (I.left input.old)) result }
-    ensures complete { planned (command_of (map string_bytes args.now))
-        (B.left bundle.old) (I.left input.old) ≡ Some Status.Done → EndsAs Status.Done result }
+    ensures ends { EndsBy
+        (planned (asked args.now) (B.left bundle.old) (I.left input.old)) result }
+    ensures complete { planned (asked args.now) (B.left bundle.old) (I.left input.old)
+        ≡ Some Status.Done → EndsAs Status.Done result }
 
     // Each refusal has its cause, and a fault was counted.
-    ensures usage { result ≡ Status.Usage ↔ (command_of (map string_bytes args.now) ≡ None) }
-    ensures bundle { result ≡ Status.Bundle
-        → RefusesBundle (command_of (map string_bytes args.now)) (B.left bundle.old) }
-    ensures too_long { result ≡ Status.TooLong → TookMore (I.left input.old) 16777216
-        × AcceptsBundle (command_of (map string_bytes args.now)) (B.left bundle.old) }
-    ensures read_fault { result ≡ Status.ReadFault
-        → ReadFaultRose (command_of (map string_bytes args.now))
+    ensures usage { result ≡ Status.Usage ↔ (asked args.now ≡ None) }
+    ensures bundle { result ≡ Status.Bundle → RefusesBundle (asked args.now) (B.left bundle.old) }
+    ensures too_long { result ≡ Status.TooLong → TookMore (I.left input.old) most_input
+        × AcceptsBundle (asked args.now) (B.left bundle.old) }
+    ensures read_fault { result ≡ Status.ReadFault → ReadFaultRose (asked args.now)
         (B.faults bundle.old) (B.faults bundle.new) (I.faults input.old) (I.faults input.new) }
     ensures write_fault { result ≡ Status.WriteFault
         → Rose (O.faults output.old) (O.faults output.new) }
 
     // Reading stops past the limits.
-    ensures bundle_taken { TookAtMost (B.left bundle.old) (B.left bundle.new) 4194305 }
-    ensures input_taken { TookAtMost (I.left input.old) (I.left input.new) 16777217 }
+    ensures bundle_taken { TookAtMost (B.left bundle.old) (B.left bundle.new) (most_bundle + 1) }
+    ensures input_taken { TookAtMost (I.left input.old) (I.left input.new) (most_input + 1) }
 {
     match read_command(args) {
         Some(Command::At(language)) => at(alloc, language, bundle, input, output),

@@ -11,7 +11,7 @@ use Rattle.timeline.specs.declared.rule.KindDate.{KindDate}
 use Rattle.timeline.specs.Zone.{DateRule, PlainRule}
 use Rattle.timeline.specs.RuleDays.{rule_date}
 use Rattle.timeline.specs.Rule.{rule_second, start_is_first, start_entry, end_entry, first_entry, second_entry}
-use Rattle.timeline.specs.DateView.{mode_number}
+use Rattle.timeline.specs.DateNumbers.{mode_number}
 use Rattle.timeline.specs.Kinds.{place_in_kind}
 use Rattle.civil.specs.Laws.{KindsOfYear}
 use Rattle.timeline.specs.RulePromises.{RulesGoByKind}

@@ -13,6 +13,7 @@ pub mod LeastFaults
 pub mod PlacedView
 pub mod Reach
 pub mod RuleChecks
+pub mod RuleYears
 pub mod TableChecks
 pub mod YearEntries
 pub mod YearTransitions

@@ -1,3 +1,4 @@
+pub mod DateNumbers
 pub mod DateView
 pub mod EntryPromises
 pub mod Equal
@@ -13,7 +14,6 @@ pub mod Ranges
 pub mod Rule
 pub mod RuleDays
 pub mod RulePromises
-pub mod RuleYears
 pub mod ShownWalls
 pub mod Table
 pub mod TableLaws

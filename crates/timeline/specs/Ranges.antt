@@ -1,6 +1,6 @@
 -- The ranges of a yearly rule's numbers, and of its first year in a zone (docs/FORMATS.md, "Rules" and "Zone fields").
-use Rattle.std.specs.Prelude.{◌<◌, ◌≤◌, unsigned_abs, ℤ, pos, negsuc, ◌≤ℤ◌}
-use Rattle.timeline.specs.Zone.{DateRule, RawRule}
+use Rattle.std.specs.Prelude.{◌<◌, ◌≤◌, unsigned_abs, ℤ, pos, negsuc}
+use Rattle.timeline.specs.Zone.{DateRule}
 
 -- the least number of 28 bits with its sign, as a bundle has them
 abbrev pub least_28 : ℤ
@@ -10,10 +10,6 @@ least_28 = negsuc 134217727
 abbrev pub greatest_28 : ℤ
 greatest_28 = pos 134217727
 
--- a first year that a bundle can give to a rule
-abbrev pub IsFirstYear : ℤ → Type 0
-IsFirstYear year = (least_28 ≤ℤ year) × (year ≤ℤ greatest_28)
-
 -- a month of the year, a day that a month may have, of either sign, seconds of a day, and one of three modes
 pub record IsDateInRange (r : DateRule) : Type 0 where
   pub month : r.month < 12
@@ -21,8 +17,3 @@ pub record IsDateInRange (r : DateRule) : Type 0 where
   pub last_day : unsigned_abs r.day ≤ 31
   pub seconds : r.seconds ≤ 86400
   pub mode : r.mode ≤ 2
-
--- so are both dates of a rule
-pub record AreDatesInRange (r : RawRule) : Type 0 where
-  pub start : IsDateInRange r.start
-  pub end : IsDateInRange r.end

@@ -153,7 +153,7 @@ impl ZoneData {
     }
 
     /// The nth transition of the table. Takes one step.
-    pub fn entry_at<L: Ledger>(&self, n: usize, steps: &mut Steps<L>) -> Transition
+    pub fn table_entry<L: Ledger>(&self, n: usize, steps: &mut Steps<L>) -> Transition
         requires { n < length self.now.table }
         ensures value { slice_get self.now.table n ≡ Some result }
         ensures ticks { steps.new ≡ steps.old + 1 }

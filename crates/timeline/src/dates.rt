@@ -7,9 +7,9 @@ ghost use Rattle.timeline.specs.RuleDays.{code_weekday, first_on, last_on};
 ghost use Rattle.timeline.specs.Rule.{start_is_first};
 ghost use Rattle.timeline.specs.Kinds.{place_in_kind};
 ghost use Rattle.timeline.specs.Inside.KeptRules.{places_of, kept_rule};
-ghost use Rattle.timeline.specs.DateView.{mode_number, day_code, plain_date, raw_of};
+ghost use Rattle.timeline.specs.DateNumbers.{day_code, date_of};
 ghost use Rattle.timeline.specs.Equal.{same_date, same_rule};
-ghost use Rattle.timeline.specs.Ranges.{least_28, greatest_28, IsDateInRange, AreDatesInRange};
+ghost use Rattle.timeline.specs.Ranges.{least_28, greatest_28, IsDateInRange};
 
 use crate::rule::{KindDate, TimeMode, YearRule};
 use civil::days_before_month;
@@ -56,6 +56,7 @@ impl DayRule {
 }
 
 /// One of the two dates of a rule: its month, its day and which day that names, its seconds, and what these are counted by.
+/// Its numbers are in range.
 #[derive(Clone, Copy)]
 pub struct RuleDate {
     month: u32,
@@ -63,6 +64,7 @@ pub struct RuleDate {
     rule: DayRule,
     seconds: u32,
     mode: TimeMode,
+    ghost in_range: { IsDateInRange (date_of month day rule seconds mode) },
 }
 
 /// The dates of a rule, with the extra offset that its start adds.
@@ -195,28 +197,13 @@ fn place(month: u32, day: i32, rule: DayRule, kind: u8) -> i16
     }
 }
 
-/// The places of a date in years of the 14 kinds.
-fn places(date: RuleDate) -> [i16; 14]
-    requires { IsDateInRange (plain_date date) }
-    ensures { result ≡ places_of (plain_date date) }
-{
-    let mut places = [0; 14];
-    for kind in 0..14 {
-        places[kind] = place(date.month, date.day, date.rule, kind as u8);
-    }
-    places
-}
-
 impl RuleDate {
+    ghost use Rattle.timeline.specs.DateView.{plain_date};
+
     /// A date of these three numbers, with which day its day names, and what its seconds are counted by.
     pub fn new(month: u32, day: i32, rule: DayRule, seconds: u32, mode: TimeMode) -> RuleDate
-        ensures { plain_date result ≡ record {
-          month = month;
-          day = day;
-          code = day_code rule;
-          seconds = seconds;
-          mode = mode_number mode;
-        } }
+        requires { IsDateInRange (date_of month day rule seconds mode) }
+        ensures { plain_date result ≡ date_of month day rule seconds mode }
     {
         RuleDate {
             month,
@@ -237,9 +224,22 @@ impl RuleDate {
             && self.seconds == other.seconds
             && self.mode.is_same(other.mode)
     }
+
+    /// Its places in years of the 14 kinds.
+    fn places(self) -> [i16; 14]
+        ensures { result ≡ places_of (plain_date self) }
+    {
+        let mut places = [0; 14];
+        for kind in 0..14 {
+            places[kind] = place(self.month, self.day, self.rule, kind as u8);
+        }
+        places
+    }
 }
 
 impl RuleDates {
+    ghost use Rattle.timeline.specs.DateView.{plain_date, raw_of};
+
     /// The dates of a rule, with the extra offset that its start adds.
     pub fn new(start: RuleDate, end: RuleDate, extra: i32) -> RuleDates
         ensures { raw_of result
@@ -259,31 +259,32 @@ impl RuleDates {
             && self.end.is_same(&other.end)
             && self.extra == other.extra
     }
-}
 
-impl PlacedDates {
-    /// The dates with their places.
-    pub fn new(dates: RuleDates) -> PlacedDates
-        requires { AreDatesInRange (raw_of dates) }
-        ensures { result ≡ raw_of dates }
+    /// Whether the start is a year's first transition.
+    fn start_is_first(&self) -> bool
+        ensures { (raw first_year : ℤ)
+            → result ≡ start_is_first (plain_rule (raw_of self.now) raw first_year) }
     {
-        PlacedDates {
-            dates,
-            start: places(dates.start),
-            end: places(dates.end),
+        if self.start.month == self.end.month {
+            self.start.day.unsigned_abs() <= self.end.day.unsigned_abs()
+        } else {
+            self.start.month < self.end.month
         }
     }
 }
 
-/// Whether the start is a year's first transition.
-fn start_is_first(dates: &RuleDates) -> bool
-    ensures { (raw first_year : ℤ)
-        → result ≡ start_is_first (plain_rule (raw_of dates.now) raw first_year) }
-{
-    if dates.start.month == dates.end.month {
-        dates.start.day.unsigned_abs() <= dates.end.day.unsigned_abs()
-    } else {
-        dates.start.month < dates.end.month
+impl PlacedDates {
+    ghost use Rattle.timeline.specs.DateView.{raw_of};
+
+    /// The dates with their places.
+    pub fn new(dates: RuleDates) -> PlacedDates
+        ensures { result ≡ raw_of dates }
+    {
+        PlacedDates {
+            dates,
+            start: dates.start.places(),
+            end: dates.end.places(),
+        }
     }
 }
 
@@ -309,7 +310,7 @@ impl ZoneRule {
         raw.checked_add(dates.extra)?;
         let start = KindDate::new(placed.start, dates.start.seconds, dates.start.mode);
         let end = KindDate::new(placed.end, dates.end.seconds, dates.end.mode);
-        let first = start_is_first(&dates);
+        let first = dates.start_is_first();
         Some(ZoneRule {
             dates,
             years: YearRule::new(start, end, dates.extra, raw, first, first_year),

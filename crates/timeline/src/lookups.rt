@@ -2,8 +2,7 @@
 ghost use Rattle.std.specs.Prelude.{◌≡◌, ◌+◌, ◌-◌, ◌*◌, ◌^◌, ◌≤◌, ◌<◌, ℤ, ◌+ℤ◌, ◌<ℤ◌, int_lt, not, IfSome, [], ◌∷◌, length, slice_range, min};
 ghost use Rattle.civil.specs.Calendar.{year_second, day_of, wall_second};
 ghost use Rattle.timeline.specs.Zone.{end_year};
-ghost use Rattle.timeline.specs.Ranges.{IsFirstYear};
-ghost use Rattle.timeline.specs.RuleYears.{TellsYear};
+ghost use Rattle.timeline.specs.Inside.RuleYears.{IsFirstYear, TellsYear};
 ghost use Rattle.timeline.specs.Inside.KeptRules.{OfItsRule};
 ghost use Rattle.timeline.specs.Inside.Reach.{IsInReach, IsInside};
 ghost use Rattle.timeline.specs.TableLaws.{KeepsOrder};
@@ -251,7 +250,7 @@ fn next_answer<L: Ledger>(
     if number == zone.len() {
         return PossibleOffset::Single(before);
     }
-    let entry = zone.entry_at(number, steps);
+    let entry = zone.table_entry(number, steps);
     answer_from(wall, before, &[entry])
 }
 
@@ -271,7 +270,7 @@ fn answer_around<L: Ledger>(
         return next_answer(zone, wall, number, steps);
     }
     let before = before_entry(zone, number - 1);
-    let entry = zone.entry_at(number - 1, steps);
+    let entry = zone.table_entry(number - 1, steps);
     match answer_by(wall, before, entry) {
         Some(answer) => answer,
         None => next_answer(zone, wall, number, steps),

@@ -3,8 +3,8 @@ ghost use Rattle.std.specs.Prelude.{◌≡◌, ◌+◌, ◌<◌, ℤ, pos, ◌+�
 ghost use Rattle.std.specs.Ordering.{int_eq};
 ghost use Rattle.timeline.specs.Zone.{fits_i32, end_year};
 ghost use Rattle.timeline.specs.TableLaws.{IsSmall};
-ghost use Rattle.timeline.specs.Ranges.{greatest_28, IsFirstYear};
-ghost use Rattle.timeline.specs.RuleYears.{TellsYear};
+ghost use Rattle.timeline.specs.Ranges.{greatest_28};
+ghost use Rattle.timeline.specs.Inside.RuleYears.{IsFirstYear, TellsYear};
 ghost use Rattle.timeline.specs.Timeline.{offset_of};
 ghost use Rattle.timeline.specs.Inside.KeptRules.{KeptRule, LieWithin, OfItsRule};
 ghost use Rattle.timeline.specs.Inside.KeptYears.{kind_second, taken_off, kept_start, kept_end, BeginsYear};
@@ -64,7 +64,7 @@ impl Model for YearRule {
 
 impl TimeMode {
     ghost use Rattle.std.specs.Prelude.{nat_eq};
-    ghost use Rattle.timeline.specs.DateView.{mode_number};
+    ghost use Rattle.timeline.specs.DateNumbers.{mode_number};
 
     /// Whether two modes are one.
     pub(crate) fn is_same(self, other: TimeMode) -> bool

@@ -37,7 +37,7 @@ fn first_in_table<L: Ledger>(
     ensures { FirstIn zone.now change from (length zone.now.table) result }
 {
     for n in from..zone.len() {
-        let entry = zone.entry_at(n, steps);
+        let entry = zone.table_entry(n, steps);
         if !is_idle(change, &before_entry(zone, n), &entry) {
             return Some(entry);
         }
@@ -58,7 +58,7 @@ fn last_in_table<L: Ledger>(
     let mut n = to;
     while n > 0 {
         n -= 1;
-        let entry = zone.entry_at(n, steps);
+        let entry = zone.table_entry(n, steps);
         if !is_idle(change, &before_entry(zone, n), &entry) {
             return Some(entry);
         }

@@ -33,5 +33,7 @@ mod transitions_tests;
 mod trees;
 #[cfg(test)]
 mod words_tests;
+#[cfg(test)]
+mod zone_lines_tests;
 
 pub use samples::{aliased, changed_zone, one_zone, table_zone, three_zones, unlawful_zones};

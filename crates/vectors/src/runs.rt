@@ -12,6 +12,9 @@ use tell::{Failed, MemSink, MemSource, Source, Status, run};
 /// A line, and the answer to it.
 pub type Row = (&'static str, &'static str);
 
+/// The command whose answers are English.
+pub const EN: [&str; 3] = ["at", "en", "F"];
+
 // Room for the answers of every table.
 const ROOM: usize = 10_000;
 

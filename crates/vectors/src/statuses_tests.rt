@@ -1,5 +1,5 @@
 //! How runs end, and what was written then.
-use crate::runs::{ran_over, words, written};
+use crate::runs::{EN, ran_over, words, written};
 use crate::three_zones;
 use std::alloc::{AllocError, Global};
 use std::test::Fail;
@@ -15,8 +15,6 @@ const THREE_ANSWERS: &str = "1521828000\t0\t7200\t+\t2 days
 1521622800\t0\t7200\t-\tnow
 ! date could not be parsed from input
 ";
-
-const EN: [&str; 3] = ["at", "en", "F"];
 
 #[test]
 fn tells_words_that_are_no_command(rt: HostRuntime) -> Result<(), Fail> {

@@ -1,6 +1,6 @@
 -- A list that a loop reads: what was read, and then what is still read.
 use Rattle.std.proofs.Common.{◌≡◌, List, [], ◌∷◌, ◌++◌, Option, Some, None, refl, ap, append_assoc}
-use Rattle.resb_tree.specs.Bodies.{◌>>=◌}
+use Rattle.resb_tree.specs.Options.{◌>>=◌}
 use Rattle.zoneinfo64.specs.Inside.ListSteps.{with_front}
 
 -- one more was read

@@ -3,7 +3,7 @@ use Rattle.std.proofs.Common.{◌≡◌, ℕ, ◌<◌, ◌≤◌, Bool, true, fa
 use Rattle.std.specs.Option.{unwrap_or}
 use Rattle.std.specs.Char.Utf16.{utf16_chars, utf16_lossy_chars, lone_unit_char, is_high_surrogate, is_low_surrogate, surrogate_pair_char}
 use Rattle.std.proofs.lemmas.Bool.{le-ltb, lt-leb, leb-true, and_parts, cases_lt}
-use Rattle.resb_tree.specs.Bodies.{when}
+use Rattle.resb_tree.specs.Options.{when}
 use Rattle.zoneinfo64.specs.Regions.{region_byte, region_of_chars, region_of}
 
 high_byte : (c : ℕ) → 128 ≤ c → region_byte c ≡ 0

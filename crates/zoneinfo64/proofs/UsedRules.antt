@@ -1,7 +1,7 @@
 -- The rule that a zone uses, from what was read of its three fields.
 use Rattle.std.proofs.Common.{◌≡◌, ℕ, List, Option, Some, ℤ, ◌+ℤ◌, refl}
 use Rattle.resb_tree.specs.Contents.{text_in, signed_in}
-use Rattle.resb_tree.specs.Bodies.{when}
+use Rattle.resb_tree.specs.Options.{when}
 use Rattle.resb_tree.specs.declared.resource.Resource.{Resource}
 use Rattle.timeline.specs.Zone.{RawRule, fits_i32, plain_rule}
 use Rattle.zoneinfo64.specs.RuleFields.{used_rule}

@@ -5,7 +5,7 @@ use Rattle.std.specs.Prelude.{ℕ, ◌==◌, nat_le, nat_lt, Bool, true, ◌&&�
 use Rattle.resb_tree.specs.Fields.{field_in}
 use Rattle.resb_tree.specs.Contents.{items_in, entries_in}
 use Rattle.resb_tree.specs.Header.{tree_of}
-use Rattle.resb_tree.specs.Bodies.{◌>>=◌, when}
+use Rattle.resb_tree.specs.Options.{◌>>=◌, when}
 use Rattle.resb_tree.specs.declared.resource.Resource.{Resource}
 use Rattle.timeline.specs.Zone.{RawRule}
 use Rattle.zoneinfo64.specs.NamedZone.{Place, IsZone, IsAlias, NamedZone, name_text, zone_at}

@@ -9,9 +9,11 @@ use Rattle.zoneinfo64.specs.EqualNames.{same_names}
 use Rattle.zoneinfo64.specs.EqualZones.{same_zones}
 use Rattle.zoneinfo64.specs.ZoneView.{entry_of, plain_zone}
 
+-- equality of pairs of offsets is an equivalence
 pairs : IsEquivalence same_pair
 pairs = and_equiv (on_equiv (λ (p : ℤ × ℤ). p.0) int_eq_equiv) (on_equiv (λ (p : ℤ × ℤ). p.1) int_eq_equiv)
 
+-- so is that of a rule's dates
 dates : IsEquivalence same_date
 dates =
     and_equiv (and_equiv (and_equiv (and_equiv (on_equiv (λ (d : DateRule). d.month) nat_eq_equiv)
@@ -20,18 +22,21 @@ dates =
     (on_equiv (λ (d : DateRule). d.seconds) nat_eq_equiv))
     (on_equiv (λ (d : DateRule). d.mode) nat_eq_equiv)
 
+-- that of a rule's eleven numbers
 numbers : IsEquivalence same_numbers
 numbers =
     and_equiv (and_equiv (on_equiv (λ (r : PlainRule). r.start) dates)
     (on_equiv (λ (r : PlainRule). r.end) dates))
     (on_equiv (λ (r : PlainRule). r.extra) int_eq_equiv)
 
+-- that of rules
 rules : IsEquivalence same_rule
 rules =
     and_equiv (and_equiv numbers
     (on_equiv (λ (r : PlainRule). r.raw) int_eq_equiv))
     (on_equiv (λ (r : PlainRule). r.first_year) int_eq_equiv)
 
+-- that of zones
 zones : IsEquivalence same_zone
 zones =
     and_equiv (and_equiv (and_equiv (and_equiv (and_equiv (and_equiv (on_equiv (λ (z : PlainZone). z.type_offsets) (lists_equiv pairs))
@@ -42,6 +47,7 @@ zones =
     (on_equiv (λ (z : PlainZone). z.links) (lists_equiv nat_eq_equiv)))
     (on_equiv (λ (z : PlainZone). z.rule) (options_equiv rules))
 
+-- and that of names and regions
 names : IsEquivalence same_names
 names = and_equiv (on_equiv (λ (e : NamedZone). e.name) (lists_equiv nat_eq_equiv)) (on_equiv (λ (e : NamedZone). e.region) (lists_equiv nat_eq_equiv))
 

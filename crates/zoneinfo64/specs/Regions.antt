@@ -2,7 +2,7 @@
 use Rattle.std.specs.Char.{is_ascii_digit, is_ascii_uppercase}
 use Rattle.std.specs.Char.Utf16.{utf16_lossy_chars}
 use Rattle.std.specs.Prelude.{ℕ, ◌==◌, nat_lt, Bool, ◌&&◌, ◌||◌, if◌then◌else◌, List, [], ◌∷◌, slice_index_or, Option}
-use Rattle.resb_tree.specs.Bodies.{when}
+use Rattle.resb_tree.specs.Options.{when}
 
 -- a character of a region as a byte; one that is not ASCII counts as 0
 abbrev pub region_byte : ℕ → ℕ

@@ -1,12 +1,13 @@
 -- The dates of a rule, from its numbers (docs/FORMATS.md, "Zone fields").
+use Rattle.std.specs.Int.{w32, cast_signed}
 use Rattle.std.specs.Ordering.{int_eq}
 use Rattle.std.specs.Prelude.{ℕ, ◌==◌, nat_le, nat_lt, Bool, ◌&&◌, ◌||◌, if◌then◌else◌, Option, ℤ, pos, negsuc, ◌-ℤ◌, int_lt, int_le, unsigned_abs}
-use Rattle.resb_tree.specs.Bodies.{when}
+use Rattle.resb_tree.specs.Options.{when}
 use Rattle.timeline.specs.Zone.{DateRule}
 
 -- 32 bits with their sign
 abbrev pub as_i32 : ℕ → ℤ
-as_i32 n = if nat_lt n 2147483648 then pos n else pos n -ℤ pos 4294967296
+as_i32 n = cast_signed w32 n
 
 -- the longest that a month may be, January first
 abbrev pub longest_month : ℕ → ℕ

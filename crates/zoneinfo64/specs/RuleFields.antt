@@ -2,7 +2,7 @@
 use Rattle.std.specs.Prelude.{ℕ, if◌then◌else◌, List, [], ◌∷◌, Option, Some, None, ◌+ℤ◌}
 use Rattle.std.specs.Str.{bytes_eq}
 use Rattle.resb_tree.specs.Contents.{text_in, integers_in, signed_in}
-use Rattle.resb_tree.specs.Bodies.{◌>>=◌, when}
+use Rattle.resb_tree.specs.Options.{◌>>=◌, when}
 use Rattle.resb_tree.specs.declared.resource.Resource.{Resource}
 use Rattle.timeline.specs.Zone.{RawRule, PlainRule, fits_i32, plain_rule}
 use Rattle.zoneinfo64.specs.RuleDates.{as_i32, date_rule}

@@ -1,7 +1,7 @@
 -- A zone from the fields of its table (docs/FORMATS.md, "Zone fields").
 use Rattle.std.specs.Prelude.{ℕ, List, [], ◌∷◌, ◌++◌, length, map, slice_get, Option, Some, None, ℤ, codes}
 use Rattle.resb_tree.specs.Fields.{field_in}
-use Rattle.resb_tree.specs.Bodies.{◌>>=◌}
+use Rattle.resb_tree.specs.Options.{◌>>=◌}
 use Rattle.resb_tree.specs.declared.resource.Resource.{Resource}
 use Rattle.timeline.specs.Table.{transition_to}
 use Rattle.timeline.specs.Zone.{RawRule, PlainRule, PlainZone}

@@ -2,7 +2,7 @@
 use Rattle.std.specs.Prelude.{ℕ, List, [], ◌∷◌, Option, Some, None, ℤ, pos, ◌+ℤ◌, ◌*ℤ◌, codes}
 use Rattle.resb_tree.specs.Fields.{field_in}
 use Rattle.resb_tree.specs.Contents.{bytes_in, integers_in}
-use Rattle.resb_tree.specs.Bodies.{◌>>=◌, when}
+use Rattle.resb_tree.specs.Options.{◌>>=◌, when}
 use Rattle.resb_tree.specs.declared.resource.Resource.{Resource}
 use Rattle.timeline.specs.Table.{pair_offset}
 use Rattle.timeline.specs.Zone.{fits_i32}

@@ -1,7 +1,7 @@
 -- The names of zones, and the place of a name (docs/FORMATS.md, "Zone fields").
 use Rattle.std.specs.Prelude.{ℕ, List, [], ◌∷◌, Option, Some, None}
 use Rattle.resb_tree.specs.Contents.{text_in, index_in}
-use Rattle.resb_tree.specs.Bodies.{◌>>=◌}
+use Rattle.resb_tree.specs.Options.{◌>>=◌}
 use Rattle.resb_tree.specs.declared.resource.Resource.{Resource}
 use Rattle.timeline.specs.Zone.{RawRule}
 use Rattle.zoneinfo64.specs.NamedZone.{Place, IsZone, IsAlias, NamedZone}

@@ -1,7 +1,8 @@
 //! The dates of a yearly rule, from the eleven integers that a bundle has for it.
-ghost use Rattle.std.specs.Prelude.{◌≡◌, ◌≤◌, IfSome, option_map, unsigned_abs};
-ghost use Rattle.timeline.specs.DateView.{mode_number, plain_date, raw_of};
-ghost use Rattle.timeline.specs.Ranges.{IsDateInRange, AreDatesInRange};
+ghost use Rattle.std.specs.Prelude.{◌≡◌, ◌≤◌, option_map, unsigned_abs};
+ghost use Rattle.timeline.specs.DateNumbers.{mode_number};
+ghost use Rattle.timeline.specs.DateView.{plain_date, raw_of};
+ghost use Rattle.timeline.specs.Ranges.{IsDateInRange};
 ghost use Rattle.zoneinfo64.specs.RuleDates.{as_i32, longest_month, between, is_rule_day, is_date, date_from, date_rule};
 ghost use Rattle.zoneinfo64.specs.RuleFields.{raw_rule};
 ghost use Rattle.zoneinfo64.specs.Inside.DateWords.{by_dates};
@@ -82,7 +83,8 @@ fn mode_of(word: u32) -> TimeMode
 }
 
 fn date_from(month: u32, day: u32, code: u32, seconds: u32, mode: u32) -> RuleDate
-    requires { unsigned_abs (as_i32 mode) ≤ 2 }
+    requires { IsDateInRange
+        (date_from (as_i32 month) (as_i32 day) (as_i32 code) (as_i32 seconds) (as_i32 mode)) }
     ensures { plain_date result
         ≡ date_from (as_i32 month) (as_i32 day) (as_i32 code) (as_i32 seconds) (as_i32 mode) }
 {
@@ -97,8 +99,7 @@ fn date_from(month: u32, day: u32, code: u32, seconds: u32, mode: u32) -> RuleDa
 
 /// A date from its five numbers.
 fn date(month: u32, day: u32, code: u32, seconds: u32, mode: u32) -> Option<RuleDate>
-    ensures bound { IfSome result (λ d. IsDateInRange (plain_date d)) }
-    ensures value { option_map plain_date result
+    ensures { option_map plain_date result
         ≡ date_rule (as_i32 month) (as_i32 day) (as_i32 code) (as_i32 seconds) (as_i32 mode) }
 {
     if is_date(month, day, code, seconds, mode) {
@@ -109,10 +110,7 @@ fn date(month: u32, day: u32, code: u32, seconds: u32, mode: u32) -> Option<Rule
 }
 
 fn dates_from(start: Option<RuleDate>, end: Option<RuleDate>, extra: u32) -> Option<RuleDates>
-    requires start { IfSome start (λ d. IsDateInRange (plain_date d)) }
-    requires end { IfSome end (λ d. IsDateInRange (plain_date d)) }
-    ensures bound { IfSome result (λ d. AreDatesInRange (raw_of d)) }
-    ensures value { option_map raw_of result
+    ensures { option_map raw_of result
         ≡ by_dates (option_map plain_date start) (option_map plain_date end) (as_i32 extra) }
 {
     let Some(start) = start else {
@@ -126,8 +124,7 @@ fn dates_from(start: Option<RuleDate>, end: Option<RuleDate>, extra: u32) -> Opt
 
 /// The rule of eleven integers: two dates and the extra offset.
 pub fn dates(words: &[u32]) -> Option<RuleDates>
-    ensures bound { IfSome result (λ d. AreDatesInRange (raw_of d)) }
-    ensures value { option_map raw_of result ≡ raw_rule words.now }
+    ensures { option_map raw_of result ≡ raw_rule words.now }
 {
     let [a, b, c, d, e, f, g, h, i, j, k] = words else {
         return None;

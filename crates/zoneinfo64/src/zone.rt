@@ -175,14 +175,14 @@ impl<'a> Zone<'a> {
     pub fn name(&self) -> &'a PotentialUtf16
         ensures { IfSome (entry_of self.now) (λ e. result.now ≡ e.name) }
     {
-        &entry_at(self.info, self.place).name
+        &named_at(self.info, self.place).name
     }
 
     /// Its region, an alias's own.
     pub fn region(&self) -> Region
         ensures { IfSome (entry_of self.now) (λ e. result ≡ e.region) }
     {
-        entry_at(self.info, self.place).region
+        named_at(self.info, self.place).region
     }
 
     /// The offset in force at a second counted from 1970-01-01 00:00:00 UTC, which may be any `i64`: in seconds east of
@@ -328,8 +328,8 @@ impl PartialEq for Zone<'_> {
 
     fn eq(&self, other: &Self) -> bool {
         let (entry, other_entry) = (
-            entry_at(self.info, self.place),
-            entry_at(other.info, other.place),
+            named_at(self.info, self.place),
+            named_at(other.info, other.place),
         );
         same_names(entry, other_entry)
             && data_of(self.info, self.place).is_same(data_of(other.info, other.place))
@@ -403,7 +403,7 @@ impl Zone<'_> {
     pub(crate) fn data_place(&self) -> usize
         ensures { zone_at (list_of self.now) result ≡ plain_zone self.now }
     {
-        match &entry_at(self.info, self.place).item {
+        match &named_at(self.info, self.place).item {
             Item::Zone(_) => self.place as usize,
             Item::Alias(target) => *target as usize,
         }
@@ -411,7 +411,7 @@ impl Zone<'_> {
 }
 
 /// The entry at a place.
-fn entry_at(info: &ZoneInfo64, place: u16) -> &Named
+fn named_at(info: &ZoneInfo64, place: u16) -> &Named
     requires { IsTrue (is_some (resolved_in info.now (slice_get info.now place))) }
     ensures { slice_get info.now place ≡ Some (named_of result.now) }
 {
@@ -423,7 +423,7 @@ fn data_of(info: &ZoneInfo64, place: u16) -> &ZoneData
     requires { IsTrue (is_some (resolved_in info.now (slice_get info.now place))) }
     ensures { resolved_in info.now (slice_get info.now place) ≡ Some result.now }
 {
-    match &entry_at(info, place).item {
+    match &named_at(info, place).item {
         Item::Zone(data) => data,
         Item::Alias(target) => match &info.entries[*target as usize].item {
             Item::Zone(data) => data,

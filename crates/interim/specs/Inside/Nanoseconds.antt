@@ -5,15 +5,19 @@ use Rattle.std.specs.Cmp.{nat_cmp_is}
 use Rattle.std.specs.Ordering.{nat_cmp, match_ordering}
 use Rattle.std.specs.declared.cmp.Ordering.TheVariants.{Less, Equal, Greater}
 
+-- of two numbers the lower is Less
 earlier : (x y : ℕ) → x < y → nat_cmp x y ≡ Less
 earlier x y h = sym (nat_cmp_is x y Less h)
 
+-- the higher is Greater
 later : (x y : ℕ) → y < x → nat_cmp x y ≡ Greater
 later x y h = sym (nat_cmp_is x y Greater h)
 
+-- and equal ones are Equal
 same : (x y : ℕ) → x ≡ y → nat_cmp x y ≡ Equal
 same x y h = sym (nat_cmp_is x y Equal h)
 
+-- nanoseconds of seconds and a rest are ordered by the seconds first, then by the rest
 parts_cmp : (s t f g : ℕ) → f < 1000000000 → g < 1000000000 → nat_cmp (s * 1000000000 + f) (t * 1000000000 + g) ≡ match_ordering (nat_cmp s t) Less (nat_cmp f g) Greater
 parts_cmp s t f g h k =
     elim (cases_order s t) [

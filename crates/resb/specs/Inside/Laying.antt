@@ -1,13 +1,25 @@
 -- Trees whose words stand behind others (docs/FORMATS.md, "The writer").
-use Rattle.std.specs.Prelude.{◌≡◌, ℕ, ◌+◌, List, ◌++◌, length, map, Result, MatchResult}
+use Rattle.std.specs.Prelude.{◌≡◌, ◌≤◌, ℕ, ◌+◌, List, ◌++◌, length, map, Result, MatchResult}
 use Rattle.resb_tree.specs.declared.error.ResbError.{ResbError}
 use Rattle.resb_tree.specs.declared.resource.Resource.{Resource}
-use Rattle.resb.specs.Plan.{Fits, FitsAll, Refuses}
+use Rattle.resb.specs.Plan.{most_words, Fits, FitsAll, Refuses}
 use Rattle.resb.specs.LaidTrees.{laid, lay_all}
 
 -- where there are no keys
 abbrev pub no_places : List ℕ → ℕ
 no_places key = 0
+
+-- the words of a leaf, which has no keys, from a body word on
+abbrev pub leaf_words : Resource → ℕ → List ℕ
+leaf_words t at = (laid t no_places at).0
+
+-- and its item
+abbrev pub leaf_item : Resource → ℕ → ℕ
+leaf_item t at = (laid t no_places at).1
+
+-- they end within the limit
+abbrev pub LeafFits : Resource → ℕ → Type 0
+LeafFits t at = at + length (leaf_words t at) ≤ most_words
 
 -- a tree stands behind the old words, the first of which is body word `base`, and this is its item
 pub record IsLaid (t : Resource) (places : List ℕ → ℕ) (base : ℕ) (old new : List ℕ) (told : ℕ) : Type 0 where

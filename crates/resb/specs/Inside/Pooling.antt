@@ -1,7 +1,7 @@
 -- The pool into which the keys of a tree are put (docs/FORMATS.md, "The writer").
 use Rattle.std.specs.Prelude.{◌≡◌, ℕ, List, [], ◌∷◌, ◌++◌, Option, Some, None, Result, Ok, Err, if◌then◌else◌, nat_lt}
 use Rattle.resb_tree.specs.Keys.{stands_in}
-use Rattle.resb_tree.specs.Bodies.{◌>>=◌}
+use Rattle.resb_tree.specs.Options.{◌>>=◌}
 use Rattle.resb_tree.specs.declared.error.ResbError.{ResbError}
 use Rattle.resb_tree.specs.declared.error.ResbError.TheVariants.{Memory, NoTree, TooLarge, BadKey}
 use Rattle.resb.specs.Packing.{most_unit}

@@ -1,8 +1,9 @@
 -- The keys at places of a body, where there are some (docs/FORMATS.md, "Keys").
 use Rattle.std.specs.Prelude.{◌≡◌, ℕ, ◌<◌, List, [], length, map, Option, Some, None}
-use Rattle.resb_tree.specs.Bodies.{◌>>=◌, Body}
+use Rattle.resb_tree.specs.Options.{◌>>=◌}
+use Rattle.resb_tree.specs.Bodies.{Body}
 use Rattle.resb_tree.specs.Tables.{key_at}
-use Rattle.resb_tree.specs.Forms.{entry_in}
+use Rattle.resb_tree.specs.Inside.Forms.{entry_in}
 use Rattle.resb_tree.specs.declared.forms.TableForm.{TableForm}
 
 -- a list, or an empty one where there is none

@@ -2,8 +2,9 @@
 use Rattle.std.specs.Prelude.{ℕ, ◌+◌, List, [], ◌∷◌, Option, Some, None, nat_le, ◌-◌, cond, if◌then◌else◌, ◌==◌}
 use Rattle.resb_tree.specs.Keys.{distinct}
 use Rattle.resb_tree.specs.Words.{run}
-use Rattle.resb_tree.specs.Bodies.{◌>>=◌, when, Body, counted}
-use Rattle.resb_tree.specs.Forms.{item_in, entry_in}
+use Rattle.resb_tree.specs.Options.{◌>>=◌, when}
+use Rattle.resb_tree.specs.Bodies.{Body, counted}
+use Rattle.resb_tree.specs.Inside.Forms.{item_in, entry_in}
 use Rattle.resb_tree.specs.Inside.Counts.{no_items, array_count, no_entries, table_count}
 use Rattle.resb_tree.specs.Inside.Spans.{short_span}
 use Rattle.resb_tree.specs.Inside.KeyPlaces.{key_length, keys_there}

@@ -3,7 +3,7 @@ use Rattle.std.specs.Prelude.{◌≡◌, ℕ, ◌+◌, ◌<◌, ◌≤◌, List,
 use Rattle.resb_tree.specs.Words.{run}
 use Rattle.resb_tree.specs.Bodies.{Body}
 use Rattle.resb_tree.specs.Tree.{tree_at}
-use Rattle.resb_tree.specs.Forms.{item_in, items_end, entry_in, EntriesLie}
+use Rattle.resb_tree.specs.Inside.Forms.{item_in, items_end, entry_in, EntriesLie}
 use Rattle.resb_tree.specs.Inside.KeyPlaces.{key_there, HaveKeys}
 use Rattle.resb_tree.specs.declared.forms.ArrayForm.{ArrayForm}
 use Rattle.resb_tree.specs.declared.forms.TableForm.{TableForm}

@@ -3,7 +3,7 @@ use Rattle.std.specs.Prelude.{◌≡◌, List, length, All, Option, Some, None, 
 use Rattle.resb_tree.specs.Keys.{distinct}
 use Rattle.resb_tree.specs.Words.{run}
 use Rattle.resb_tree.specs.Bodies.{Body}
-use Rattle.resb_tree.specs.Forms.{entry_in, EntriesLie}
+use Rattle.resb_tree.specs.Inside.Forms.{entry_in, EntriesLie}
 use Rattle.resb_tree.specs.Inside.KeyPlaces.{key_length, keys_there}
 use Rattle.resb_tree.specs.declared.checker.Met.{Met}
 use Rattle.resb_tree.specs.declared.checker.Apart.{Apart}

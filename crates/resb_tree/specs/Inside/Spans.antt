@@ -1,6 +1,7 @@
 -- Where keys and the texts of the 16-bit area stand (docs/FORMATS.md, "Keys", "Texts of the area").
 use Rattle.std.specs.Prelude.{ℕ, zero, suc, ◌-◌, ◌+◌, ◌%◌, ◌||◌, ◌*◌, if◌then◌else◌, ◌==◌, Option, Some, None, nat_le, nat_lt}
-use Rattle.resb_tree.specs.Bodies.{◌>>=◌, Body, area_len, area_unit}
+use Rattle.resb_tree.specs.Options.{◌>>=◌}
+use Rattle.resb_tree.specs.Bodies.{Body, area_len, area_unit}
 
 -- the place of the first zero unit from a place on, within so many
 unfoldable pub zero_from : (ℕ → ℕ) → ℕ → ℕ → Option ℕ

@@ -2,7 +2,6 @@
 use Rattle.std.specs.Prelude.{◌≡◌}
 use Rattle.timeline.specs.Zone.{RawRule}
 use Rattle.timeline.specs.Inside.KeptRules.{places_of}
-use Rattle.timeline.specs.Ranges.{AreDatesInRange}
 use Rattle.timeline.specs.DateView.{plain_date, raw_of}
 use Rattle.timeline.specs.declared.dates.PlacedDates.TheInside.{Inside}
 
@@ -10,8 +9,7 @@ use Rattle.timeline.specs.declared.dates.PlacedDates.TheInside.{Inside}
 abbrev pub raw_view : Inside → RawRule
 raw_view a = raw_of a.dates
 
--- its numbers are in range, and its places are those of its dates
+-- its places are those of its dates, which carry their ranges
 pub record HasPlaces (a : Inside) : Type 0 where
-  pub in_range : AreDatesInRange (raw_of a.dates)
   pub start : a.start ≡ places_of (plain_date a.dates.start)
   pub end : a.end ≡ places_of (plain_date a.dates.end)

@@ -1,6 +1,6 @@
 -- A zone from its fields.
 use Rattle.std.specs.Prelude.{ℕ, List, ◌++◌, length, map, Option, Some, ℤ}
-use Rattle.resb_tree.specs.Bodies.{◌>>=◌}
+use Rattle.resb_tree.specs.Options.{◌>>=◌}
 use Rattle.resb_tree.specs.Contents.{integers_in, bytes_in}
 use Rattle.resb_tree.specs.declared.resource.Resource.{Resource}
 use Rattle.timeline.specs.Zone.{RawRule, PlainZone}

@@ -2,7 +2,7 @@
 use Rattle.std.specs.BTreeMap.{BTreeMap}
 use Rattle.std.specs.Prelude.{ℕ, List, Option, Some, None, Result, Ok, Err, ◌≡◌, Vec}
 use Rattle.std.specs.declared.alloc.Global.{Global}
-use Rattle.resb_tree.specs.Bodies.{◌>>=◌}
+use Rattle.resb_tree.specs.Options.{◌>>=◌}
 use Rattle.resb_tree.specs.Contents.{integers_in}
 use Rattle.resb_tree.specs.declared.resource.Resource.{Resource}
 use Rattle.timeline.specs.Zone.{RawRule}

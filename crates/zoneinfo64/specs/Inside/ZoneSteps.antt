@@ -2,7 +2,7 @@
 use Rattle.std.specs.Cmp.Lexicographic.{slice_cmp}
 use Rattle.std.specs.Ordering.{nat_cmp, is_lt}
 use Rattle.std.specs.Prelude.{ℕ, Bool, List, Option, Some, None}
-use Rattle.resb_tree.specs.Bodies.{◌>>=◌}
+use Rattle.resb_tree.specs.Options.{◌>>=◌}
 use Rattle.resb_tree.specs.declared.resource.Resource.{Resource}
 use Rattle.timeline.specs.Zone.{RawRule}
 use Rattle.zoneinfo64.specs.NamedZone.{NamedZone, name_text}

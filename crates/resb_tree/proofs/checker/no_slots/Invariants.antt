@@ -1,5 +1,5 @@
 use Rattle.std.proofs.Common.{◌≡◌, All, length}
-use Rattle.resb_tree.specs.Forms.{told}
+use Rattle.resb_tree.specs.BodyView.{told}
 use Rattle.resb_tree.specs.Inside.Slots.{IsMet}
 use Rattle.resb_tree.proofs.checker.no_slots.Given as goal
 

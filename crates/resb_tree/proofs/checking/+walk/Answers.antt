@@ -1,5 +1,5 @@
 use Rattle.std.proofs.Common.{arith}
-use Rattle.resb_tree.specs.Forms.{entry_in}
+use Rattle.resb_tree.specs.Inside.Forms.{entry_in}
 use Rattle.resb_tree.specs.Inside.Walk.{left_behind}
 use Rattle.resb_tree.proofs.Checks.{have_keys}
 use Rattle.resb_tree.proofs.checking.+walk.Goals as goal

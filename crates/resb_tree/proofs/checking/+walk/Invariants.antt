@@ -1,6 +1,6 @@
 use Rattle.std.proofs.Common.{◌≡◌, ◌+◌, ◌-◌, ◌*◌}
 use Rattle.resb_tree.specs.Words.{run}
-use Rattle.resb_tree.specs.Forms.{item_in, entry_in}
+use Rattle.resb_tree.specs.Inside.Forms.{item_in, entry_in}
 use Rattle.resb_tree.specs.Inside.Left.{items_left, key_left, entries_left}
 use Rattle.resb_tree.specs.Inside.Walk.{left_behind}
 use Rattle.resb_tree.proofs.checking.+walk.Given as goal

@@ -1,7 +1,8 @@
 use Rattle.std.proofs.Common.{◌≡◌, ◌-◌}
 use Rattle.resb_tree.specs.Words.{run}
 use Rattle.resb_tree.specs.Keys.{distinct}
-use Rattle.resb_tree.specs.Forms.{told, entry_in}
+use Rattle.resb_tree.specs.BodyView.{told}
+use Rattle.resb_tree.specs.Inside.Forms.{entry_in}
 use Rattle.resb_tree.specs.Inside.KeyPlaces.{keys_there}
 use Rattle.resb_tree.proofs.key_places.few_apart.Given as goal
 

@@ -1,7 +1,7 @@
 use Rattle.std.proofs.Common.{◌≡◌, ◌≢◌, ◌+◌, ◌-◌, ◌%◌, ◌∙◌, sym, arith}
 use Rattle.std.proofs.lemmas.Bool.{eq-eqb, ne_eqb}
 use Rattle.resb_tree.specs.Words.{byte_in}
-use Rattle.resb_tree.specs.Forms.{told}
+use Rattle.resb_tree.specs.BodyView.{told}
 use Rattle.resb_tree.specs.Inside.Bytes.{HoldBytes}
 use Rattle.resb_tree.proofs.Held.{held_first, held_next}
 use Rattle.resb_tree.proofs.KeyPlaces.{key_next, bytes_next}

@@ -1,6 +1,6 @@
 use Rattle.std.proofs.Common.{◌≡◌, ◌+◌, ◌-◌, ◌%◌, drop}
 use Rattle.std.specs.Str.{bytes_eq}
-use Rattle.resb_tree.specs.Forms.{told}
+use Rattle.resb_tree.specs.BodyView.{told}
 use Rattle.resb_tree.specs.Inside.KeyPlaces.{key_there, IsKey}
 use Rattle.resb_tree.specs.Inside.Bytes.{HoldBytes}
 use Rattle.resb_tree.proofs.key_places.key_is.Given as goal

@@ -1,6 +1,6 @@
 use Rattle.std.proofs.Common.{◌≡◌, ◌-◌, ◌*◌, ◌≤◌, ◌++◌}
 use Rattle.resb_tree.specs.Words.{run, byte_in}
-use Rattle.resb_tree.specs.Forms.{told}
+use Rattle.resb_tree.specs.BodyView.{told}
 use Rattle.resb_tree.specs.Inside.KeyPlaces.{key_there, IsKey}
 use Rattle.resb_tree.proofs.key_places.key_len.Given as goal
 

@@ -1,6 +1,7 @@
 use Rattle.std.proofs.Common.{◌≡◌, ◌-◌}
 use Rattle.resb_tree.specs.Words.{run}
-use Rattle.resb_tree.specs.Forms.{told, entry_in}
+use Rattle.resb_tree.specs.BodyView.{told}
+use Rattle.resb_tree.specs.Inside.Forms.{entry_in}
 use Rattle.resb_tree.specs.Inside.KeyPlaces.{keys_there}
 use Rattle.resb_tree.proofs.key_places.same_places.Given as goal
 

@@ -1,7 +1,8 @@
 use Rattle.std.proofs.Common.{◌≡◌, ◌-◌, ◌+◌}
 use Rattle.resb_tree.specs.Words.{run}
 use Rattle.resb_tree.specs.Keys.{stands_in}
-use Rattle.resb_tree.specs.Forms.{told, entry_in}
+use Rattle.resb_tree.specs.BodyView.{told}
+use Rattle.resb_tree.specs.Inside.Forms.{entry_in}
 use Rattle.resb_tree.specs.Inside.KeyPlaces.{key_there, keys_there}
 use Rattle.resb_tree.proofs.key_places.stands_later.Given as goal
 

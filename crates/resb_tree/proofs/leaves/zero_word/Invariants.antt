@@ -1,6 +1,6 @@
 use Rattle.std.proofs.Common.{◌≡◌, ◌-◌, ◌*◌}
 use Rattle.resb_tree.specs.Bodies.{area_len, area_unit}
-use Rattle.resb_tree.specs.Forms.{told}
+use Rattle.resb_tree.specs.BodyView.{told}
 use Rattle.resb_tree.specs.Inside.Spans.{zero_from}
 use Rattle.resb_tree.proofs.leaves.zero_word.Given as goal
 

@@ -1,7 +1,7 @@
 use Rattle.std.proofs.Common.{◌≡◌, ◌-◌}
 use Rattle.resb_tree.specs.Words.{run}
 use Rattle.resb_tree.specs.Fields.{first_with}
-use Rattle.resb_tree.specs.Forms.{told}
+use Rattle.resb_tree.specs.BodyView.{told}
 use Rattle.resb_tree.specs.Inside.Places.{entry_there}
 use Rattle.resb_tree.proofs.refs.first_with.Given as goal
 

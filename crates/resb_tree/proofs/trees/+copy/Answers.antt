@@ -1,5 +1,5 @@
 use Rattle.std.proofs.Common.{◌+◌, ◌-◌, ◌*◌, ◌<◌, arith, rules}
-use Rattle.resb_tree.specs.Forms.{told}
+use Rattle.resb_tree.specs.BodyView.{told}
 use Rattle.resb_tree.proofs.LeafParts.{tree_is}
 use Rattle.resb_tree.proofs.Parts.{array_there, table_there}
 use Rattle.resb_tree.proofs.trees.+copy.Goals as goal

@@ -1,6 +1,6 @@
 use Rattle.std.proofs.Common.{◌≡◌, ◌+◌, ◌*◌}
 use Rattle.resb_tree.specs.Words.{run}
-use Rattle.resb_tree.specs.Forms.{told}
+use Rattle.resb_tree.specs.BodyView.{told}
 use Rattle.resb_tree.specs.Inside.Places.{items_there, entry_there}
 use Rattle.resb_tree.proofs.trees.+copy.Given as goal
 

@@ -4,7 +4,7 @@ use Rattle.std.proofs.lemmas.Bool.{lt-ltb}
 use Rattle.civil.specs.Calendar.{year_start, days_of_months, example_year}
 use Rattle.jiff_core.proofs.SignedLemmas.{signed_casts}
 use Rattle.timeline.specs.RuleDays.{first_on, last_on, code_weekday}
-use Rattle.timeline.specs.DateView.{day_code}
+use Rattle.timeline.specs.DateNumbers.{day_code}
 use Rattle.timeline.proofs.DatePlaces.{place_anchor, place_from_month, place_from_anchor, place_to_anchor, is_zero, is_no_zero}
 use Rattle.timeline.proofs.dates.place.Goals as goal
 

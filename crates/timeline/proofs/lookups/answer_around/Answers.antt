@@ -7,10 +7,10 @@ pub returns-in-Some : goal.returns-in-Some
 returns-in-Some g c =
     let wall = to_z-of_z w64 c.args.wall c.ranges.wall in
     let said = sym c.in-Some.is ∙ (rw wall at c.answer_by.ensures) in
-    said_before c.args.zone.now c.args.wall (c.args.number - 1) c.args.number _ _ _ (omega arith) c.entry_at-entry.ensures.value c.before_entry-before.ensures (rw (← said) refl)
+    said_before c.args.zone.now c.args.wall (c.args.number - 1) c.args.number _ _ _ (omega arith) c.table_entry-entry.ensures.value c.before_entry-before.ensures (rw (← said) refl)
 
 pub returns-in-None : goal.returns-in-None
 returns-in-None g c =
     let wall = to_z-of_z w64 c.args.wall c.ranges.wall in
     let said = sym c.in-None.is ∙ (rw wall at c.answer_by.ensures) in
-    said_before c.args.zone.now c.args.wall (c.args.number - 1) c.args.number _ _ _ (omega arith) c.entry_at-entry.ensures.value c.before_entry-before.ensures (rw (← said) (rw wall at c.next_answer-in-None.ensures))
+    said_before c.args.zone.now c.args.wall (c.args.number - 1) c.args.number _ _ _ (omega arith) c.table_entry-entry.ensures.value c.before_entry-before.ensures (rw (← said) (rw wall at c.next_answer-in-None.ensures))

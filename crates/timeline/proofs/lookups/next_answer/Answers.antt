@@ -9,4 +9,4 @@ returns-then-number-len g c = said_past c.args.zone.now c.args.wall c.args.numbe
 pub returns : goal.returns
 returns g c =
     let wall = to_z-of_z w64 c.args.wall c.ranges.wall in
-    said_next c.args.zone.now c.args.wall c.args.number _ _ _ c.entry_at-entry.ensures.value c.before_entry-before.ensures (rw wall at c.answer_from.ensures)
+    said_next c.args.zone.now c.args.wall c.args.number _ _ _ c.table_entry-entry.ensures.value c.before_entry-before.ensures (rw wall at c.answer_from.ensures)

@@ -5,5 +5,5 @@ use Rattle.timeline.proofs.transitions.first_in_table.Goals as goal
 
 pub returns-then-not-is_idle : goal.returns-then-not-is_idle
 returns-then-not-is_idle g c =
-    let moves : is_idle c.args.change c.before_entry.result c.entry_at-entry.result ≡ false = cc in
-    first_here c.args.zone.now c.args.change c.args.from c.loop-n.n c.before_entry.result c.entry_at-entry.result c.before_entry.ensures c.entry_at-entry.ensures.value moves (omega arith) c.loop-n.invariant
+    let moves : is_idle c.args.change c.before_entry.result c.table_entry-entry.result ≡ false = cc in
+    first_here c.args.zone.now c.args.change c.args.from c.loop-n.n c.before_entry.result c.table_entry-entry.result c.before_entry.ensures c.table_entry-entry.ensures.value moves (omega arith) c.loop-n.invariant

@@ -1,4 +1,4 @@
-use Rattle.resb_tree.specs.Forms.{told}
+use Rattle.resb_tree.specs.BodyView.{told}
 use Rattle.resb_tree.proofs.Checks.{met_more}
 use Rattle.resb_tree.proofs.checker.Checker.key.Goals as goal
 

@@ -1,5 +1,5 @@
 use Rattle.std.proofs.Common.{arith}
-use Rattle.resb_tree.specs.Forms.{told}
+use Rattle.resb_tree.specs.BodyView.{told}
 use Rattle.resb_tree.proofs.LeafParts.{bytes_here}
 use Rattle.resb_tree.proofs.in_place.ResourceRef.bytes.Goals as goal
 

@@ -1,5 +1,5 @@
 use Rattle.std.proofs.Common.{arith}
-use Rattle.resb_tree.specs.Forms.{told}
+use Rattle.resb_tree.specs.BodyView.{told}
 use Rattle.resb_tree.proofs.LeafParts.{tree_is}
 use Rattle.resb_tree.proofs.Parts.{array_there, array_items}
 use Rattle.resb_tree.proofs.in_place.ResourceRef.items.Goals as goal

@@ -1,5 +1,5 @@
 use Rattle.std.proofs.Common.{sym, arith}
-use Rattle.resb_tree.specs.Forms.{told}
+use Rattle.resb_tree.specs.BodyView.{told}
 use Rattle.resb_tree.proofs.LeafParts.{text_here, short_here}
 use Rattle.resb_tree.proofs.in_place.ResourceRef.text.Goals as goal
 

@@ -15,4 +15,4 @@ invariant_of-result c =
     let years = kept_from (rule_view (record { dates = dates; years = c.new.result })) c.new.result
     (ap (λ (k : KeptRule). k.start) c.new.ensures ∙ start) (ap (λ (k : KeptRule). k.end) c.new.ensures ∙ end) (ap (λ (k : KeptRule). k.extra) c.new.ensures ∙ to_z-of_z extra) refl
     (ap (λ (k : KeptRule). k.start_is_first) c.new.ensures ∙ c.start_is_first-first.ensures c.args.raw c.args.first_year) refl in
-    record { years = years; in_range = c.placed.invariant.in_range }
+    record { years = years }

@@ -1,16 +1,11 @@
 -- Where the items of an array, and the key places and items of a table, stand (docs/FORMATS.md, "Items").
 use Rattle.std.specs.Prelude.{ℕ, ◌+◌, ◌*◌, ◌/◌, slice_index, ◌≤◌}
 use Rattle.resb_tree.specs.Words.{unit_in}
-use Rattle.resb_tree.specs.Bodies.{Body, body, area_len, area_unit, text_item}
-use Rattle.resb_tree.specs.declared.body.BodyWords.{BodyWords}
+use Rattle.resb_tree.specs.Bodies.{Body, area_len, area_unit, text_item}
 use Rattle.resb_tree.specs.declared.forms.ArrayForm.{ArrayForm}
 use Rattle.resb_tree.specs.declared.forms.ArrayForm.TheVariants as array
 use Rattle.resb_tree.specs.declared.forms.TableForm.{TableForm}
 use Rattle.resb_tree.specs.declared.forms.TableForm.TheVariants as table
-
--- the words and ends of a body
-abbrev pub told : BodyWords → Body
-told b = body b.words.now b.keys_end b.area_end b.end
 
 -- ---- arrays
 
