@@ -7,9 +7,9 @@ use Rattle.resb_tree.specs.declared.resource.Resource.TheVariants as r
 use Rattle.resb.specs.Entries.{values_in}
 use Rattle.resb.specs.LaidTrees.{laid, lay_all}
 use Rattle.resb.specs.Packing.{most_unit}
-use Rattle.resb.specs.Plan.{most_words, Fits}
+use Rattle.resb.specs.Plan.{most_words}
 use Rattle.resb.specs.WrittenFiles.{most_of}
-use Rattle.resb.specs.Inside.Laying.{IsLaid, Stands}
+use Rattle.resb.specs.Inside.Laying.{IsLaid, Stands, Fits}
 use Rattle.resb.proofs.Folds.{laid-Array, laid-Table}
 use Rattle.resb.proofs.LaidWords.{parent_fits}
 use Rattle.resb.proofs.TreeKinds.{IsParent, LaidOver, parent-Array, parent-Table, at_place, length-lay_all, over_length}

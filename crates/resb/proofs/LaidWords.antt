@@ -7,8 +7,8 @@ use Rattle.resb_tree.specs.declared.error.ResbError.{ResbError}
 use Rattle.resb_tree.specs.declared.error.ResbError.TheVariants.{Memory, NoTree, TooLarge, BadKey}
 use Rattle.resb_tree.specs.declared.resource.Resource.{Resource}
 use Rattle.resb_tree.specs.declared.resource.Resource.TheVariants as r
-use Rattle.resb.specs.Inside.Laying.{no_places, IsLaid}
-use Rattle.resb.specs.Plan.{most_words, Fits, FitsAll, Refuses}
+use Rattle.resb.specs.Inside.Laying.{no_places, IsLaid, Fits}
+use Rattle.resb.specs.Plan.{most_words, FitsAll, Refuses}
 use Rattle.resb.specs.LaidTrees.{laid, lay_all, item}
 use Rattle.resb.specs.Packing.{pack_units, pack_bytes}
 use Rattle.resb.specs.WrittenFiles.{most_of}

@@ -4,7 +4,8 @@ use Rattle.std.proofs.lemmas.Bool.{cases_Bool}
 use Rattle.std.proofs.lemmas.Cmp.{nat_list_eq_equiv}
 use Rattle.std.proofs.lemmas.List.{at_drop_more, drop_more}
 use Rattle.std.specs.Str.{bytes_eq}
-use Rattle.resb.specs.Pool.{bare, pool_end}
+use Rattle.resb.specs.Pool.{bare}
+use Rattle.resb.specs.Inside.Pooling.{pool_end}
 use Rattle.resb.specs.TreeKeys.{pool_bytes}
 use Rattle.resb.proofs.Pools.{told_at, behind}
 

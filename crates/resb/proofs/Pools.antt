@@ -14,8 +14,8 @@ use Rattle.std.proofs.lemmas.Slice.Eq.{bytes_eq-Decides}
 use Rattle.resb_tree.specs.Keys.{stands_in}
 use Rattle.resb_tree.specs.Options.{◌>>=◌}
 use Rattle.resb.specs.Packing.{most_unit}
-use Rattle.resb.specs.Pool.{bare, place_of, pool_end}
-use Rattle.resb.specs.Inside.Pooling.{place_told, added, pooled}
+use Rattle.resb.specs.Pool.{bare, place_of}
+use Rattle.resb.specs.Inside.Pooling.{place_told, added, pooled, pool_end}
 use Rattle.resb.specs.TreeKeys.{key_place, pool_bytes, first_keys}
 use Rattle.resb.specs.Writing.{places_of}
 use Rattle.resb.specs.WrittenFiles.{most_of}

@@ -9,8 +9,8 @@ use Rattle.resb_tree.specs.declared.resource.Resource.{Resource}
 use Rattle.resb_tree.specs.declared.resource.Resource.TheVariants as r
 use Rattle.resb.specs.DraftRows.{Holds, HasRoom}
 use Rattle.resb.specs.DraftParents.{Lacks, NoArray, AreNames, RefusesTable, MakesTable}
-use Rattle.resb.specs.DraftParents.{NoTable as Untabled}
-use Rattle.resb.specs.Inside.Telling.{NoTable, Names}
+use Rattle.resb.specs.DraftParents.{NoTable}
+use Rattle.resb.specs.Inside.Telling.{NamesNone, Names}
 use Rattle.resb.specs.Plan.{Refuses}
 use Rattle.resb.specs.Entries.{values_in}
 use Rattle.resb.specs.Pool.{all_in, bare}
@@ -48,12 +48,12 @@ array_large d count kept e k f = record { short = λ keys row lt h. absurd (omeg
 pub length-names : (es : List (List ℕ × Resource)) (names : List (List ℕ)) → keys_in es ≡ names → length (values_in es) ≡ length names
 length-names es names e = length-values es ∙ sym (length-map es (λ (f : List ℕ × Resource). f.0)) ∙ ap length e
 
-pub names_short : (d : Draft) (names : List (List ℕ)) (e : ResbError) → e ≡ NoTree → (length d.laying.items.items ≡ length d.levels.items → length d.laying.items.items < length names) → NoTable d names e
+pub names_short : (d : Draft) (names : List (List ℕ)) (e : ResbError) → e ≡ NoTree → (length d.laying.items.items ≡ length d.levels.items → length d.laying.items.items < length names) → NamesNone d names e
 names_short d names e is f = record { short = λ keys row lt h. rw is tt; large = λ keys row es n h. absurd (not_there d (length names) f keys row (values_in es) (length-names es names n) h) }
 
 pub names_large : (d : Draft) (names : List (List ℕ)) (kept : ℕ) (e : ResbError) → kept + length names ≡ length d.laying.items.items
     → ((keys : List (List ℕ)) (row : List Resource) (es : List (List ℕ × Resource)) → keys_in es ≡ names → IsParent (r.Table es) (values_in es) names → kept + length (values_in es) ≡ length d.laying.items.items → Holds d keys (row ++ values_in es) → Refuses (HasRoom keys (row ++ r.Table es ∷ [])) e)
-    → NoTable d names e
+    → NamesNone d names e
 names_large d names kept e k f = record {
   short = λ keys row lt h. absurd (omega (arith, k, lt, row_items d keys row h));
   large = λ keys row es n h. f keys row es n (rw n at (parent-Table es)) (omega (arith, k, length-names es names n)) h;
@@ -80,5 +80,5 @@ makes_table old new names (Err y) known apart f = record {
   large = λ keys row es e h. refuses_table y _ _ (f.large keys row es e h);
 }
 
-pub bad_names : (d : Draft) (names : List (List ℕ)) → ((keys : List (List ℕ)) (row : List Resource) → Holds d keys row → AreNames keys names → ⊥) → Untabled d names BadKey
+pub bad_names : (d : Draft) (names : List (List ℕ)) → ((keys : List (List ℕ)) (row : List Resource) → Holds d keys row → AreNames keys names → ⊥) → NoTable d names BadKey
 bad_names d names f = record { short = λ keys row lt h. f keys row h; large = λ keys row es e h. f keys (row ++ values_in es) h }

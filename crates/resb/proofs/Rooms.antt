@@ -8,7 +8,8 @@ use Rattle.resb_tree.specs.declared.error.ResbError.{ResbError}
 use Rattle.resb_tree.specs.declared.error.ResbError.TheVariants.{Memory, NoTree, TooLarge, BadKey}
 use Rattle.resb_tree.specs.declared.resource.Resource.{Resource}
 use Rattle.resb_tree.specs.Weight.{weight, most_weight}
-use Rattle.resb.specs.Plan.{Fits, most_words, Refuses}
+use Rattle.resb.specs.Plan.{most_words, Refuses}
+use Rattle.resb.specs.Inside.Laying.{Fits}
 use Rattle.resb.specs.Pool.{place_of, words_end}
 use Rattle.resb.specs.LaidTrees.{laid, lay_all}
 use Rattle.resb.specs.Writing.{depth}

@@ -10,13 +10,13 @@ use Rattle.resb_tree.specs.declared.resource.Resource.{Resource}
 use Rattle.resb_tree.specs.Words.{value_count}
 use Rattle.resb_tree.specs.Weight.{weight}
 use Rattle.resb.specs.Laws.{has_typed_parts}
-use Rattle.resb.specs.Plan.{Fits, FitsAll}
+use Rattle.resb.specs.Plan.{FitsAll}
 use Rattle.resb.specs.Pool.{bare, place_of}
 use Rattle.resb.specs.LaidTrees.{laid, lay_all}
 use Rattle.resb.specs.WrittenFiles.{most_of, most_entries}
 use Rattle.resb.specs.Writing.{depth}
 use Rattle.resb.specs.BadKeys.{has_bad_key}
-use Rattle.resb.specs.Inside.Laying.{IsLaid}
+use Rattle.resb.specs.Inside.Laying.{IsLaid, Fits}
 use Rattle.resb.specs.DraftRows.{Holds, Row}
 use Rattle.resb.proofs.LaidWords.{leaf_fits, fits-first, fits-rest, fits_none, fits_cons}
 use Rattle.resb.proofs.TreeKinds.{IsLeaf, leaf-Integer, most_both, at_place, all_append, all_parts}

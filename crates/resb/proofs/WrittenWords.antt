@@ -10,7 +10,8 @@ use Rattle.resb.specs.Pool.{place_of, words_end}
 use Rattle.resb.specs.DraftRows.{HasRoom}
 use Rattle.resb.specs.Drafts.{Unwritten}
 use Rattle.resb.specs.Inside.Pooling.{pooled, Fills}
-use Rattle.resb.specs.Plan.{Fits, Refuses, keys_end, most_words}
+use Rattle.resb.specs.Plan.{Refuses, most_words}
+use Rattle.resb.specs.Inside.Laying.{Fits}
 use Rattle.resb_tree.specs.Weight.{weight}
 use Rattle.resb.specs.Packing.{pack_bytes, most_unit}
 use Rattle.resb.specs.TreeKeys.{pool_bytes, key_pool, keys_met}
@@ -24,6 +25,10 @@ use Rattle.resb.proofs.PoolReads.{Each, each_met, met_in_pool, place_low, pool_k
 use Rattle.resb.proofs.Pools.{pooled_is, pool_first}
 
 -- ---- the words
+
+-- the body word behind the keys
+abbrev keys_end : Resource → ℕ
+keys_end t = words_end (key_pool t)
 
 pub written_is : (t : Resource) → written t ≡ (let root = laid t (place_of (key_pool t)) (keys_end t) in let end = keys_end t + length root.0 in header ++ ((root.1 ∷ 7 ∷ keys_end t ∷ end ∷ end ∷ most_entries t ∷ 0 ∷ keys_end t ∷ []) ++ pack_bytes (pool_bytes (key_pool t)) ++ root.0))
 unfolding written written_body

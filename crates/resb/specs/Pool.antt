@@ -10,10 +10,6 @@ use Rattle.resb.specs.Packing.{pack_bytes}
 abbrev pub bare : List (Bor (List ℕ)) → List (List ℕ)
 bare keys = map (λ k. k.now) keys
 
--- the byte behind the pool
-abbrev pub pool_end : List (List ℕ) → ℕ
-pool_end keys = 32 + length (pool_bytes keys)
-
 -- the body word behind the pool
 abbrev pub words_end : List (List ℕ) → ℕ
 words_end keys = 8 + length (pack_bytes (pool_bytes keys))

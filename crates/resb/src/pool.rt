@@ -2,8 +2,8 @@ ghost use Rattle.std.specs.Prelude.{◌≡◌, ℕ, ◌<◌, ◌^◌, List, Some
 ghost use Rattle.std.specs.BTreeMap.{get_by};
 ghost use Rattle.std.specs.Cmp.Lexicographic.{slice_cmp};
 ghost use Rattle.std.specs.Ordering.{nat_cmp};
-ghost use Rattle.resb.specs.Pool.{bare, place_of, pool_end, words_end};
-ghost use Rattle.resb.specs.Inside.Pooling.{place_told};
+ghost use Rattle.resb.specs.Pool.{bare, place_of, words_end};
+ghost use Rattle.resb.specs.Inside.Pooling.{place_told, pool_end};
 
 use std::collections::BTreeMap;
 

@@ -1,11 +1,16 @@
 -- The pool into which the keys of a tree are put (docs/FORMATS.md, "The writer").
-use Rattle.std.specs.Prelude.{◌≡◌, ℕ, List, [], ◌∷◌, ◌++◌, Option, Some, None, Result, Ok, Err, if◌then◌else◌, nat_lt}
+use Rattle.std.specs.Prelude.{◌≡◌, ℕ, ◌+◌, List, [], ◌∷◌, ◌++◌, Option, Some, None, Result, Ok, Err, if◌then◌else◌, nat_lt, length}
 use Rattle.resb_tree.specs.Keys.{stands_in}
 use Rattle.resb_tree.specs.Options.{◌>>=◌}
 use Rattle.resb_tree.specs.declared.error.ResbError.{ResbError}
 use Rattle.resb_tree.specs.declared.error.ResbError.TheVariants.{Memory, NoTree, TooLarge, BadKey}
 use Rattle.resb.specs.Packing.{most_unit}
-use Rattle.resb.specs.Pool.{place_of, pool_end}
+use Rattle.resb.specs.TreeKeys.{pool_bytes}
+use Rattle.resb.specs.Pool.{place_of}
+
+-- the byte behind the pool
+abbrev pub pool_end : List (List ℕ) → ℕ
+pool_end keys = 32 + length (pool_bytes keys)
 
 -- the pool with a key more, where the key's place fits
 abbrev pub added : List (List ℕ) → List ℕ → Option (List (List ℕ))

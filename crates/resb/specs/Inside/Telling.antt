@@ -28,7 +28,7 @@ Tells old new trees result =
     (λ e. (keys : List (List ℕ)) (row : List Resource) → list_any has_bad_key trees ≡ false → Holds old keys row → Refuses (HasRoom keys (row ++ trees)) e)
 
 -- why there is no table under good names
-pub record NoTable (old : Draft) (names : List (List ℕ)) (e : ResbError) : Type 0 where
+pub record NamesNone (old : Draft) (names : List (List ℕ)) (e : ResbError) : Type 0 where
   pub short : (keys : List (List ℕ)) (row : List Resource) → length row < length names → Holds old keys row → Lacks (Unit {0}) e
   pub large : (keys : List (List ℕ)) (row : List Resource) (entries : List (List ℕ × Resource)) → keys_in entries ≡ names → Holds old keys (row ++ values_in entries) → Refuses (HasRoom keys (row ++ r.Table entries ∷ [])) e
 
@@ -37,4 +37,4 @@ abbrev pub Names : {X : Type 0} → Draft → Draft → List (List ℕ) → Resu
 Names old new names result =
     MatchResult result
     (λ _. (keys : List (List ℕ)) (row : List Resource) (entries : List (List ℕ × Resource)) → keys_in entries ≡ names → all_keys names ≡ true → distinct names ≡ true → Holds old keys (row ++ values_in entries) → Holds new keys (row ++ r.Table entries ∷ []))
-    (NoTable old names)
+    (NamesNone old names)

@@ -2,8 +2,8 @@ use Rattle.std.proofs.Common.{◌≡◌, ℕ, List, drop, []}
 use Rattle.std.specs.BTreeMap.{get_by}
 use Rattle.std.specs.Cmp.Lexicographic.{slice_cmp}
 use Rattle.std.specs.Ordering.{nat_cmp}
-use Rattle.resb.specs.Pool.{bare, pool_end}
-use Rattle.resb.specs.Inside.Pooling.{place_told, pooled}
+use Rattle.resb.specs.Pool.{bare}
+use Rattle.resb.specs.Inside.Pooling.{place_told, pooled, pool_end}
 use Rattle.resb.proofs.key_pool.pool_of.Given as goal
 
 abbrev pub invariant-loop-key : goal.invariant-loop-key
