@@ -133,31 +133,19 @@ fn reads_one_zone(rt: HostRuntime) -> Result<(), Fail> {
     assert_eq!(rt; entries[1].0.as_slice(), b"Names".as_slice());
     assert_eq!(rt; entries[2].0.as_slice(), b"Rules".as_slice());
     assert_eq!(rt; entries[3].0.as_slice(), b"Regions".as_slice());
-    let zones = tree
-        .field(b"Zones")
-        .ok_or("zones")?
-        .items()
-        .ok_or("an array")?;
+    let zones = tree.field(b"Zones").ok_or("zones")?;
+    let zones = zones.items().ok_or("an array")?;
     assert_eq!(rt; zones.len(), 1);
     assert!(rt; has_integers(zones[0].field(b"typeOffsets").ok_or("offsets")?, &[7200, 0]));
-    let names = tree
-        .field(b"Names")
-        .ok_or("names")?
-        .items()
-        .ok_or("an array")?;
+    let names = tree.field(b"Names").ok_or("names")?;
+    let names = names.items().ok_or("an array")?;
     assert_eq!(rt; names.len(), 1);
     assert!(rt; has_text(&names[0], TEST_PLUS2.as_slice()));
-    let rules = tree
-        .field(b"Rules")
-        .ok_or("rules")?
-        .entries()
-        .ok_or("a table")?;
+    let rules = tree.field(b"Rules").ok_or("rules")?;
+    let rules = rules.entries().ok_or("a table")?;
     assert_eq!(rt; rules.len(), 0);
-    let regions = tree
-        .field(b"Regions")
-        .ok_or("regions")?
-        .items()
-        .ok_or("an array")?;
+    let regions = tree.field(b"Regions").ok_or("regions")?;
+    let regions = regions.items().ok_or("an array")?;
     assert_eq!(rt; regions.len(), 1);
     assert!(rt; has_text(&regions[0], &[48, 48, 49]));
     assert!(rt; tree.field(b"Zone").is_none());
@@ -208,17 +196,11 @@ fn refuses_other_words(rt: HostRuntime) -> Result<(), Fail> {
     // 27 integers reach just to the end
     let words = edited(alloc, 24, 27)?;
     let tree = read(alloc, words.as_slice())?;
-    let zones = tree
-        .field(b"Zones")
-        .ok_or("zones")?
-        .items()
-        .ok_or("an array")?;
+    let zones = tree.field(b"Zones").ok_or("zones")?;
+    let zones = zones.items().ok_or("an array")?;
     assert_eq!(rt; zones.len(), 1);
-    let offsets = zones[0]
-        .field(b"typeOffsets")
-        .ok_or("offsets")?
-        .integers()
-        .ok_or("integers")?;
+    let offsets = zones[0].field(b"typeOffsets").ok_or("offsets")?;
+    let offsets = offsets.integers().ok_or("integers")?;
     assert_eq!(rt; offsets.len(), 27);
     Ok(())
 }
